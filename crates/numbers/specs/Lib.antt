@@ -1,0 +1,5 @@
+pub mod Meaning
+pub mod Pulses
+pub mod Ring
+pub mod Tenths
+pub mod Limits
