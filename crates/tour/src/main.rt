@@ -1,0 +1,34 @@
+// A guided tour: one sweep of a pulse generator from standstill to the red line.
+mod show;
+
+use meters::Panel;
+use show::ClosingDisplay;
+use show::TickDisplay;
+use std::error::AnyError;
+
+// The pulses of each tick.
+const PULSES: [u32; 12] = [0, 5, 10, 15, 20, 30, 40, 50, 60, 70, 80, 90];
+
+fn run(rt: &LibcRuntime) -> Result<(), AnyError> {
+    let panels = meters::sweep(rt.alloc(), Panel::standstill(), &PULSES)?;
+    println!(
+        rt,
+        "A pulse generator sweeps from standstill to the red line."
+    )?;
+    println!(rt, "{}", show::HEADING)?;
+    for (i, (pulses, panel)) in PULSES.iter().zip(panels.iter()).enumerate() {
+        let tick = show::Tick {
+            number: i,
+            pulses: *pulses,
+            panel: *panel,
+        };
+        println!(rt, "{tick}")?;
+    }
+    let closing = show::Closing(meters::add_up(&PULSES, panels.as_slice()));
+    println!(rt, "{closing}")?;
+    Ok(())
+}
+
+fn main(rt: LibcRuntime) -> Result<(), AnyError> {
+    rt.report(run(&rt))
+}
