@@ -1,4 +1,5 @@
-// A guided tour: one sweep of a pulse generator from standstill to the red line.
+// A guided tour: a sweep of a pulse generator from standstill to the red line, then words taken apart.
+mod parts;
 mod show;
 
 use meters::Panel;
@@ -9,7 +10,8 @@ use std::error::AnyError;
 // The pulses of each tick.
 const PULSES: [u32; 12] = [0, 5, 10, 15, 20, 30, 40, 50, 60, 70, 80, 90];
 
-fn run(rt: &LibcRuntime) -> Result<(), AnyError> {
+// One sweep of the pulse generator.
+fn show_sweep(rt: &LibcRuntime) -> Result<(), AnyError> {
     let panels = meters::sweep(rt.alloc(), Panel::standstill(), &PULSES)?;
     println!(
         rt,
@@ -27,6 +29,11 @@ fn run(rt: &LibcRuntime) -> Result<(), AnyError> {
     let closing = show::Closing(meters::add_up(&PULSES, panels.as_slice()));
     println!(rt, "{closing}")?;
     Ok(())
+}
+
+fn run(rt: &LibcRuntime) -> Result<(), AnyError> {
+    show_sweep(rt)?;
+    parts::show_words(rt)
 }
 
 fn main(rt: LibcRuntime) -> Result<(), AnyError> {

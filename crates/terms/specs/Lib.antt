@@ -1,0 +1,9 @@
+pub mod Terms
+pub mod Options
+pub mod Letters
+pub mod Names
+pub mod Signatures
+pub mod Roots
+pub mod Sorting
+pub mod Positions
+pub mod Views
