@@ -1,18 +1,17 @@
 -- What one tick and a whole sweep come to. Assumes nothing.
-use mathlib.Core.Path.{_≡_, refl, sym, ap, _∙_}
+use mathlib.Core.Path.{_≡_, sym, ap, _∙_}
 use mathlib.Core.List.{List, [], _∷_, _++_, append-assoc}
-use mathlib.Core.Bool.{true}
 use Prim.Native.Nat.{ℕ, _+_, _%_, _≤_, _<_, min}
 use native.Mathlib.Omega.{arith}
 use lib.IntN.{ℤ, pos, _+ℤ_}
 use lib.ListN.{length, drop, getD}
 use Rattle.std.specs.Numbers.{minZ}
-use Rattle.std.specs.shelf.Lists.{All, sum}
+use Rattle.std.specs.shelf.Lists.{sum}
 use Rattle.std.proofs.shelf.Sums.{sumBy-cons}
 use Rattle.std.proofs.shelf.Lists.{drop-more}
 use Rattle.std.proofs.shelf.Signed.{ints, clamps, toZ-ofZ}
 use Rattle.std.proofs.shelf.Ways.{tells}
-use Rattle.numbers.specs.Meaning.{Meaning, Lawful, plus-answer}
+use Rattle.numbers.specs.Meaning.{Lawful, plus-answer}
 use Rattle.numbers.specs.Pulses.{pulses}
 use Rattle.numbers.specs.Ring.{ring}
 use Rattle.numbers.specs.Tenths.{tenths, reading, most}

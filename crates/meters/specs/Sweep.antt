@@ -1,11 +1,11 @@
 -- A sweep of a pulse generator over four meters. Assumes nothing.
 use mathlib.Core.Path.{_≡_}
-use mathlib.Core.List.{List, [], _∷_}
+use mathlib.Core.List.{List, [], _∷_, _++_}
 use mathlib.Core.Bool.{Bool, true, false, cond, _||_}
 use Prim.Native.Nat.{ℕ, _+_, _%_, _≤_, min}
-use lib.Dec.{eqb}
+use lib.Dec.{eqb, leb}
 use lib.IntN.{negsuc, pos, _+ℤ_}
-use lib.ListN.{length}
+use lib.ListN.{length, drop}
 use Rattle.std.specs.Numbers.{minZ}
 use Rattle.std.specs.shelf.Lists.{All, sum, countBy}
 use Rattle.numbers.specs.Meaning.{Meaning, Lawful, plus-answer, minus-answer, atmost-answer}
@@ -28,6 +28,7 @@ mark-of m before n after =
 abbrev pub fed : Meaning → ℕ → ℕ → Reading
 fed m before n = record { cell = plus-answer m before n; mark = mark-of m before n (plus-answer m before n) }
 
+-- a reading to which nothing happened
 abbrev pub free : ℕ → Reading
 free c = record { cell = c; mark = Free }
 
@@ -48,6 +49,10 @@ ticked p n = record {
 abbrev pub swept : Panel → List ℕ → List Panel
 swept p [] = []
 swept p (n ∷ ns) = ticked p n ∷ swept (ticked p n) ns
+
+-- a buffer after a sweep: the panels, then what stood there; a buffer that is too short stays
+abbrev pub filled : Panel → List ℕ → List Panel → List Panel
+filled p ns ps = cond (leb (length ns) (length ps)) (swept p ns ++ drop (length ns) ps) ps
 
 -- the panel at the end
 abbrev pub last-of : Panel → List Panel → Panel
@@ -72,6 +77,7 @@ pub record Adds-up (p : Panel) (ns : List ℕ) (q : Panel) : Type 0 where
 abbrev pub Steady : List ℕ → Type 0
 Steady ns = All (λ n. n ≤ 300) ns
 
+-- whether two marks are the same
 abbrev pub same-mark : Mark → Mark → Bool
 same-mark Free Free = true
 same-mark Free Held = false

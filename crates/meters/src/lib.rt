@@ -1,10 +1,10 @@
 // A pulse generator feeds four meters, each of its own number kind.
 ghost use mathlib.Core.Path.{_≡_};
-ghost use lib.ListN.{length};
+ghost use mathlib.Core.Bool.{true};
+ghost use lib.Dec.{leb};
+ghost use lib.ListN.{length, take};
 ghost use Rattle.std.specs.shelf.Lists.{sum, countBy};
-ghost use Rattle.std.specs.Of.Vec.{vec-items};
-ghost use Rattle.std.specs.Vec.{made};
-ghost use Rattle.meters.specs.Sweep.{fed, standstill, ticked, same-mark, shows as shown, swept, last-of, Sound-panel, Steady, Adds-up, totals-of};
+ghost use Rattle.meters.specs.Sweep.{fed, standstill, ticked, same-mark, shows as shown, filled, last-of, Sound-panel, Steady, Adds-up, totals-of};
 use numbers::Limits;
 use numbers::LimitsKind;
 use numbers::NumberKind;
@@ -14,8 +14,6 @@ use numbers::SignedTenths;
 use numbers::SignedTenthsKind;
 use numbers::TripRing;
 use numbers::TripRingKind;
-use std::alloc::AllocError;
-use std::alloc::Global;
 
 // The upper end of the gauge.
 const RED_LINE: u32 = 300;
@@ -125,18 +123,22 @@ fn same(a: Mark, b: Mark) -> bool
     a == b
 }
 
-// The panel after each tick. However the pulses are spread over the ticks, the last panel has their sum added at once.
-pub fn sweep(heap: Global, start: Panel, pulses: &[u32]) -> Result<Vec<Panel>, AllocError>
-    ensures panels { λ r. ⌜ made r (λ v. vec-items v ≡ swept start (now (pulses .entry))) ⌝ }
-    ensures adds_up { λ r. ⌜ made r (λ v. Sound-panel start → Steady (now (pulses .entry)) → Adds-up start (now (pulses .entry)) (last-of start (vec-items v))) ⌝ }
+// Puts the panel after each tick into the caller's buffer and leaves what follows; no where the buffer is too short.
+// However the pulses are spread over the ticks, the last panel has their sum added at once.
+pub fn sweep(start: Panel, pulses: &[u32], panels: &mut [Panel]) -> bool
+    ensures fits { λ r. ⌜ r ≡ leb (length (now (pulses .entry))) (length (now (panels .entry))) ⌝ }
+    ensures fills { λ _. ⌜ now (panels .exit) ≡ filled start (now (pulses .entry)) (now (panels .entry)) ⌝ }
+    ensures adds_up { λ r. ⌜ (r ≡ true → Sound-panel start → Steady (now (pulses .entry)) → Adds-up start (now (pulses .entry)) (last-of start (take (length (now (pulses .entry))) (now (panels .exit))))) ⌝ }
 {
-    let mut panels = Vec::new(heap);
-    let mut panel = start;
-    for n in pulses {
-        panel = panel.tick(*n);
-        panels.push(panel)?;
+    if pulses.len() > panels.len() {
+        return false;
     }
-    Ok(panels)
+    let mut panel = start;
+    for i in 0..pulses.len() {
+        panel = panel.tick(pulses[i]);
+        panels[i] = panel;
+    }
+    true
 }
 
 fn sum_of(pulses: &[u32]) -> u128

@@ -1,9 +1,8 @@
 -- Limits on a sound meaning are sound. Assumes nothing.
 use mathlib.Core.Path.{_≡_, refl}
-use mathlib.Core.Bool.{Bool, true, false, cond, _&&_}
-use mathlib.Core.Logic.{_⊎_, inl, inr}
+use mathlib.Core.Bool.{true, cond, _&&_}
+use mathlib.Core.Logic.{inl, inr}
 use Prim.Native.Nat.{ℕ, _<_, _^_}
-use lib.Dec.{eqb}
 use native.Mathlib.Omega.{arith}
 use Rattle.std.proofs.shelf.Tests.{and-parts, and-from, cond-both, eqb-true, eq-eqb}
 use Rattle.numbers.specs.Meaning.{Meaning, Lawful, Atmost, Sound}

@@ -38,6 +38,7 @@ lawful-answer m a = m .lawful a
 abbrev pub plus-answer : Meaning → ℕ → ℕ → ℕ
 plus-answer m a b = cond (m .lawful a && m .lawful b) (m .plus a b) (m .rest)
 
+-- the difference, or the rest cell if an argument is unlawful
 abbrev pub minus-answer : Meaning → ℕ → ℕ → ℕ
 minus-answer m a b = cond (m .lawful a && m .lawful b) (m .minus a b) (m .rest)
 
@@ -45,5 +46,6 @@ minus-answer m a b = cond (m .lawful a && m .lawful b) (m .minus a b) (m .rest)
 abbrev pub atmost-answer : Meaning → ℕ → ℕ → Bool
 atmost-answer m a b = m .lawful a && m .lawful b && m .atmost a b
 
+-- the rest cell
 abbrev pub rest-answer : Meaning → ℕ
 rest-answer m = m .rest

@@ -3,6 +3,7 @@ use Prim.Native.Nat.{_+_, _-_, min}
 use lib.Dec.{leb}
 use Rattle.numbers.specs.Meaning.{Meaning}
 
+-- what pulse counts mean
 abbrev pub pulses : Meaning
 pulses = record {
   lawful = λ a. leb a 999999;

@@ -3,6 +3,7 @@ use Prim.Native.Nat.{_+_, _-_, _%_}
 use lib.Dec.{leb}
 use Rattle.numbers.specs.Meaning.{Meaning}
 
+-- what cells of the trip ring mean
 abbrev pub ring : Meaning
 ring = record {
   lawful = λ a. leb a 9999;

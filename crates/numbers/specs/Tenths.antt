@@ -13,6 +13,7 @@ use Rattle.numbers.specs.Meaning.{Meaning}
 abbrev pub least : ℤ
 least = negsuc 9998
 
+-- the upper end
 abbrev pub most : ℤ
 most = pos 9999
 
@@ -20,6 +21,7 @@ most = pos 9999
 abbrev pub reading : ℕ → ℤ
 reading a = toZ w32 a
 
+-- the cell that holds a number
 abbrev pub cell-of : ℤ → ℕ
 cell-of z = ofZ w32 z
 
@@ -27,6 +29,7 @@ cell-of z = ofZ w32 z
 abbrev pub held : ℤ → ℤ
 held z = maxZ least (minZ z most)
 
+-- what signed tenths mean
 abbrev pub tenths : Meaning
 tenths = record {
   lawful = λ a. ltb a (2 ^ 32) && leZ least (reading a) && leZ (reading a) most;

@@ -50,6 +50,24 @@ mod tests {
         check_eq(SignedTenths.plus(10_000, 1), 0)
     }
 
+    // Plus and minus with an unlawful cell in either place give rest.
+    fn rests<K: NumberKind>(kind: &K, lawful: u32, unlawful: u32) -> bool {
+        let rest = kind.rest();
+        kind.plus(lawful, unlawful) == rest
+            && kind.plus(unlawful, lawful) == rest
+            && kind.minus(lawful, unlawful) == rest
+            && kind.minus(unlawful, lawful) == rest
+    }
+
+    #[test]
+    fn unlawful_arguments_give_rest() -> Result<(), Fail> {
+        check(rests(&PulseCount, 7, 1_000_000))?;
+        check(rests(&TripRing, 7, 10_000))?;
+        check(rests(&SignedTenths, 7, 10_000))?;
+        check(rests(&Limits::new(PulseCount, 100, 300), 150, 99))?;
+        check_eq(Limits::new(PulseCount, 100, 300).rest(), 100)
+    }
+
     #[test]
     fn limits_hold_results() -> Result<(), Fail> {
         let gauge = Limits::new(PulseCount, 0, 300);

@@ -49,6 +49,3 @@ is-letter x l h = go (ltb x (2 ^ 32)) (ltb x (2 ^ 32 + 96)) (leb (2 ^ 33) x && l
         let hi = ltb-true x (2 ^ 33 + 8) (s .1) in
         subst (Is x) i (omega arith, omega arith)
     go false false false p q r e = absurd (zero-one (cc))
-
-pub only-letter : (x : ℕ) → Only-letter x (letter-of x)
-only-letter x l = (is-letter x l, λ h. ap letter-of (sym (h .0)) ∙ letter-back l (h .1))

@@ -91,10 +91,6 @@ pub symbol-full : (d : Declaration) (S : Signature) → 96 ≤ length (S .symbol
 symbol-full d S h =
     cond-false (ltb (length (S .symbols)) 96 && leb (length (d .args)) 4) _ _ (and-left (ltb (length (S .symbols)) 96) (leb (length (d .args)) 4) (le-ltb (length (S .symbols)) 96 h))
 
-pub symbol-long : (d : Declaration) (S : Signature) → 4 < length (d .args) → add-symbol d S ≡ record { answer = None; after = S }
-symbol-long d S h =
-    cond-false (ltb (length (S .symbols)) 96 && leb (length (d .args)) 4) _ _ (and-right (ltb (length (S .symbols)) 96) (leb (length (d .args)) 4) (lt-leb (length (d .args)) 4 h))
-
 pub made : (y d : Declaration) (n : ℕ) → Some y ≡ cond (leb n 4) (Some d) None → (n ≤ 4) × (y ≡ d)
 made y d n h = go (leb n 4) refl h
   where

@@ -22,7 +22,7 @@ number-of (Cell n) = n
 number-of (Symbol s) = 2 ^ 32 + s
 number-of (Variable v) = 2 ^ 33 + v
 
--- a letter that there is
+-- the numbers that cells, symbols and variables go up to
 abbrev pub In-range : Letter → Type 0
 In-range (Cell n) = n < 2 ^ 32
 In-range (Symbol s) = s < 96

@@ -1,6 +1,6 @@
 -- What a term begins with, and its letter under a signature. Assumes nothing.
 use mathlib.Core.Path.{_≡_}
-use mathlib.Core.List.{List, [], _∷_}
+use mathlib.Core.List.{List, []}
 use mathlib.Core.Bool.{Bool, true, false}
 use Prim.Native.Nat.{ℕ, zero, suc, _^_, _<_}
 use lib.ListN.{length}
@@ -35,6 +35,7 @@ fn-number minus = 1
 fn-number atmost = 2
 fn-number (own f) = f
 
+-- the function of a symbol
 abbrev pub fn-of : ℕ → Fn
 fn-of zero = plus
 fn-of (suc zero) = minus
@@ -48,6 +49,7 @@ letter (head (cell n)) = Cell n
 letter (head (symbol s)) = Symbol s
 letter (call f) = Symbol (fn-number f)
 
+-- the number of a root
 abbrev pub number : Root → ℕ
 number r = number-of (letter r)
 
@@ -73,11 +75,13 @@ abbrev pub symbol-root : ℕ → Bool → Root
 symbol-root s true = head (symbol s)
 symbol-root s false = call (fn-of s)
 
+-- the root that a letter is under a signature
 abbrev pub letter-root : Signature → Letter → Option Root
 letter-root S (Cell n) = Some (head (cell n))
 letter-root S (Symbol s) = mapped (λ d. symbol-root s (is-constructor (d .role))) (nth (S .symbols) s)
 letter-root S (Variable v) = Some (variable v)
 
+-- the root that a number is
 abbrev pub root-of : Signature → ℕ → Option Root
 root-of S x = onward (letter-of x) (letter-root S)
 
@@ -87,6 +91,7 @@ letter-role S (Cell n) = None
 letter-role S (Symbol s) = mapped (λ d. d .role) (nth (S .symbols) s)
 letter-role S (Variable v) = None
 
+-- the role of a number
 abbrev pub role-of : Signature → ℕ → Option Role
 role-of S x = onward (letter-of x) (letter-role S)
 
@@ -95,13 +100,16 @@ abbrev pub args-in : Option Declaration → List ℕ
 args-in None = []
 args-in (Some d) = d .args
 
+-- the sorts due for the arguments of a constructor; a cell has none
 abbrev pub head-args : Signature → Head → List ℕ
 head-args S (cell n) = []
 head-args S (symbol s) = args-in (nth (S .symbols) s)
 
+-- of a function
 abbrev pub fn-args : Signature → Fn → List ℕ
 fn-args S f = args-in (nth (S .symbols) (fn-number f))
 
+-- of any root
 abbrev pub root-args : Signature → Root → List ℕ
 root-args S (variable v) = []
 root-args S (head c) = head-args S c
@@ -111,5 +119,6 @@ root-args S (call f) = fn-args S f
 abbrev pub args-of : Signature → ℕ → Option (List ℕ)
 args-of S x = mapped (root-args S) (root-of S x)
 
+-- how many arguments a number takes
 abbrev pub arity : Signature → ℕ → Option ℕ
 arity S x = mapped length (args-of S x)

@@ -1,6 +1,6 @@
 -- Signatures: sorts and symbols, and what adds one. Assumes nothing.
 use mathlib.Core.List.{List, [], _∷_, _++_, map}
-use mathlib.Core.Bool.{Bool, true, false, cond, _&&_}
+use mathlib.Core.Bool.{cond, _&&_}
 use Prim.Native.Nat.{ℕ}
 use lib.Chars.{codes}
 use lib.Dec.{ltb, leb}
@@ -8,7 +8,7 @@ use lib.ListN.{length}
 use Rattle.std.specs.declared.option.Option.{Option}
 use Rattle.std.specs.declared.option.Option.the-variants.{Some, None}
 use Rattle.terms.specs.declared.signature.Role.{Role}
-use Rattle.terms.specs.declared.signature.Role.the-variants.{Constructor, Function, Operation}
+use Rattle.terms.specs.declared.signature.Role.the-variants.{Constructor, Operation}
 use Rattle.terms.specs.Names.{find-name}
 
 -- a symbol's name, its role, the sorts of its arguments and its own sort
@@ -59,5 +59,6 @@ add-symbol d S =
 abbrev pub sort-named : Signature → List ℕ → Option ℕ
 sort-named S bs = find-name (S .sorts) bs
 
+-- the first symbol of a name
 abbrev pub symbol-named : Signature → List ℕ → Option ℕ
 symbol-named S bs = find-name (map (λ d. d .name) (S .symbols)) bs

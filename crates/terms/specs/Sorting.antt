@@ -15,18 +15,21 @@ use Rattle.terms.specs.Roots.{Root, variable, head, call, fn-number, Stands, r
 abbrev pub Environment : Type 0
 Environment = ℕ → Option ℕ
 
+-- no variable has a sort
 abbrev pub closed : Environment
 closed v = None
 
--- a root's own sort; a cell's is number
+-- the sort in a declaration; what is undeclared counts as number
 abbrev pub sort-in : Option Declaration → ℕ
 sort-in None = 0
 sort-in (Some d) = d .sort
 
+-- a constructor's own sort; a cell's is number
 abbrev pub head-sort : Signature → Head → ℕ
 head-sort S (cell n) = 0
 head-sort S (symbol s) = sort-in (nth (S .symbols) s)
 
+-- a function's own sort
 abbrev pub fn-sort : Signature → Fn → ℕ
 fn-sort S f = sort-in (nth (S .symbols) (fn-number f))
 
@@ -50,6 +53,7 @@ root-sort S e (variable v) = e v
 root-sort S e (head c) = Some (head-sort S c)
 root-sort S e (call f) = Some (fn-sort S f)
 
+-- the sort of a number, by its root
 abbrev pub sort-of : Signature → Environment → ℕ → Option ℕ
 sort-of S e x = onward (root-of S x) (root-sort S e)
 

@@ -1,5 +1,5 @@
 -- Terms as trees. Assumes nothing.
-use Prim.Native.Nat.{ℕ, zero, suc}
+use Prim.Native.Nat.{ℕ, suc}
 
 infixr 40 _▸_
 -- What stands before the arguments of a constructor: a number cell, which has none, or a constructor's symbol.

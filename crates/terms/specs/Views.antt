@@ -5,7 +5,7 @@ use Prim.Native.Nat.{ℕ}
 use lib.ListN.{take}
 use Rattle.std.specs.Finite.{nth}
 use Rattle.std.specs.declared.option.Option.{Option}
-use Rattle.std.specs.declared.option.Option.the-variants.{Some, None}
+use Rattle.std.specs.declared.option.Option.the-variants.{None}
 use Rattle.terms.specs.declared.name.Name.{Name}
 use Rattle.terms.specs.declared.signature.Entry.{Entry}
 use Rattle.terms.specs.declared.signature.Signature.{Signature as Table}

@@ -1,3 +1,4 @@
+// Letters: what a 64-bit number says.
 ghost use mathlib.Core.Path.{_≡_};
 ghost use Rattle.terms.specs.Letters.{letter-of, number-of, Only-letter};
 

@@ -1,3 +1,4 @@
+// Signatures: sorts and symbols in fixed arrays with counts.
 ghost use mathlib.Core.Path.{_≡_};
 ghost use Prim.Native.Nat.{_≤_};
 ghost use lib.ListN.{length};

@@ -12,7 +12,10 @@ const PULSES: [u32; 12] = [0, 5, 10, 15, 20, 30, 40, 50, 60, 70, 80, 90];
 
 // One sweep of the pulse generator.
 fn show_sweep(rt: &LibcRuntime) -> Result<(), AnyError> {
-    let panels = meters::sweep(rt.alloc(), Panel::standstill(), &PULSES)?;
+    let mut panels = [Panel::standstill(); PULSES.len()];
+    if !meters::sweep(Panel::standstill(), &PULSES, &mut panels) {
+        return Err("too few panels for the ticks".into());
+    }
     println!(
         rt,
         "A pulse generator sweeps from standstill to the red line."
@@ -26,7 +29,7 @@ fn show_sweep(rt: &LibcRuntime) -> Result<(), AnyError> {
         };
         println!(rt, "{tick}")?;
     }
-    let closing = show::Closing(meters::add_up(&PULSES, panels.as_slice()));
+    let closing = show::Closing(meters::add_up(&PULSES, &panels));
     println!(rt, "{closing}")?;
     Ok(())
 }

@@ -99,7 +99,7 @@ fn show_part(rt: &LibcRuntime, signature: &Signature, word: &[u64], path: &[u8])
             println!(rt, ")")
         }
         None => {
-            print!(rt, "    -       - ")?;
+            print!(rt, "    -       -  ")?;
             spell_position(rt, path)?;
             println!(rt, " is no position of it")
         }

@@ -21,7 +21,7 @@ use Rattle.words.specs.Words.{word, words, Fits, All-fit}
 use Rattle.words.specs.Ends.{part-end}
 use Rattle.terms.specs.Sorting.{Sorted, All-sorted, closed, head-sort, fn-sort}
 use Rattle.words.specs.Faults.{first-not, is-closed, past-end, not-whole, due-after, walk, wrong-place, wrong-argument, is-lawful, either, word-fault, or-else, lawful-fault}
-use Rattle.words.specs.Statements.{Tells-whole, Takes, Takes-lawful, No-fault-at}
+use Rattle.words.specs.Statements.{Tells-whole, Closed-word, Lawful-closed-word, No-fault-at}
 use Rattle.terms.proofs.Letters.{zero-one}
 use Rattle.terms.proofs.Roots.{args-back}
 use Rattle.terms.proofs.Options.{more-none}
@@ -119,7 +119,7 @@ module _ (S : Signature) where
   some-letter (con c ts) e = zero-one (omega arith)
   some-letter (fun f ts) e = zero-one (omega arith)
 
-  taken : (n : ℕ) (w : List ℕ) → word-fault S n w ≡ None → Takes S n w
+  taken : (n : ℕ) (w : List ℕ) → word-fault S n w ≡ None → Closed-word S n w
   taken n w h =
       let b = size-none (eqb (length w) 0 || ltb n (length w)) _ h in
       let c = either-none Letter (first-not (is-closed S) w) _ (b .1) in
@@ -140,16 +140,16 @@ module _ (S : Signature) where
       (ap₂ (λ (o : Option ℕ) (p : Option WordFault). either Whole o p) (no-end t (a .0))
       (ap (λ (o : Option ℕ). either Sort o None) (right-arguments t k (a .0) h)))
 
-  pub takes : (n : ℕ) (w : List ℕ) → No-fault-at (Takes S n w) (word-fault S n w)
+  pub takes : (n : ℕ) (w : List ℕ) → No-fault-at (Closed-word S n w) (word-fault S n w)
   takes n w = (
     taken n w,
     λ g. subst (λ (v : List ℕ). word-fault S n v ≡ None) (g .2) (no-fault n (g .0) (g .1) (subst (λ (v : List ℕ). length v ≤ n) (sym (g .2)) (g .3)) (g .5)),
   )
 
-  pub takes-lawful : (lawful : ℕ → Bool) (n : ℕ) (w : List ℕ) → No-fault-at (Takes-lawful S lawful n w) (lawful-fault S lawful n w)
+  pub takes-lawful : (lawful : ℕ → Bool) (n : ℕ) (w : List ℕ) → No-fault-at (Lawful-closed-word S lawful n w) (lawful-fault S lawful n w)
   takes-lawful lawful n w = (there, back)
     where
-      there : lawful-fault S lawful n w ≡ None → Takes-lawful S lawful n w
+      there : lawful-fault S lawful n w ≡ None → Lawful-closed-word S lawful n w
       there h =
           let a = or-else-none (word-fault S n w) (either Cell (first-not (is-lawful lawful) w) None) h in
           let f = either-none Cell (first-not (is-lawful lawful) w) None (a .1) in
@@ -157,7 +157,7 @@ module _ (S : Signature) where
           let i = sorted-fits (g .0) (g .1) (g .5) .0 in
           (g .0, g .1, g .2, g .3, g .4, g .5, lawful-word S lawful (g .0) i .0 (ap (first-not (is-lawful lawful)) (g .2) ∙ f .0))
 
-      back : Takes-lawful S lawful n w → lawful-fault S lawful n w ≡ None
+      back : Lawful-closed-word S lawful n w → lawful-fault S lawful n w ≡ None
       back g =
           let i = sorted-fits (g .0) (g .1) (g .5) .0 in
           ap₂ (λ (o p : Option WordFault). or-else o p) (takes n w .1 (g .0, g .1, g .2, g .3, g .4, g .5))

@@ -20,18 +20,6 @@ use Rattle.terms.proofs.Options.{ahead-zero, ahead-ahead}
 
 module _ (S : Signature) where
   -- the argument i of the term that a letter begins
-  pub argument-zero : (i x : ℕ) (w : List ℕ) → i ≡ 0 → argument-place S i (x ∷ w) ≡ None
-  argument-zero i x w e = ap (λ j. argument-place S j (x ∷ w)) e
-
-  pub argument-unknown : (i x : ℕ) (w : List ℕ) → arity S x ≡ None → argument-place S i (x ∷ w) ≡ None
-  argument-unknown zero x w e = refl
-  argument-unknown (suc j) x w e = ap (λ (a : Option ℕ). onward a (λ n. cond (ltb j n) (more (end-of S j w)) None)) e
-
-  pub argument-past : (i x n : ℕ) (w : List ℕ) → arity S x ≡ Some n → n < i → argument-place S i (x ∷ w) ≡ None
-  argument-past zero x n w e l = refl
-  argument-past (suc j) x n w e l =
-      ap (λ (a : Option ℕ). onward a (λ n. cond (ltb j n) (more (end-of S j w)) None)) e ∙ cond-false (ltb j n) _ _ (le-ltb j n (omega arith))
-
   pub argument-in : (i x n : ℕ) (w : List ℕ) → arity S x ≡ Some n → (i ≡ 0 → ⊥) → i ≤ n → argument-place S i (x ∷ w) ≡ more (end-of S (i - 1) w)
   argument-in zero x n w e z l = absurd (z refl)
   argument-in (suc j) x n w e z l =
@@ -43,9 +31,6 @@ module _ (S : Signature) where
   -- i numbers of the path are passed, and the part starts at letters on
   abbrev pub Reached : List ℕ → List ℕ → ℕ → ℕ → Type 0
   Reached p w i at = place S p w ≡ ahead at (place S (drop i p) (drop at w))
-
-  pub reached-none : (p w : List ℕ) → Reached p w 0 0
-  reached-none p w = sym (ahead-zero (place S p w))
 
   next-number : (p w : List ℕ) (i at : ℕ) (o : Option ℕ) → Reached p w i at → i < length p → o ≡ argument-place S (getD p i 0) (drop at w)
       → place S p w ≡ ahead at (and-then o (λ n. place S (drop (i + 1) p) (drop n (drop at w))))

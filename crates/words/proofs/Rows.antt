@@ -163,5 +163,5 @@ module _ (S : Signature) where
           subst (λ (v : Term). (word v ≡ w) × Fits S v) q (sym (append-nil (word u)) ∙ i .0, i .1 .0)
       go (Some (u ▸ v ▸ ts)) e g = absurd (zero-one (cc))
 
-pub reads-back : Reads-back
+pub reads-back : (S : Signature) (w : List ℕ) → Reads-back S w
 reads-back S w t = (word-read S w t, λ h. ap (read S) (sym (h .0)) ∙ read-word S t (h .1))

@@ -53,10 +53,6 @@ due-append None ks ls = refl
 due-append (Some js) ks ls = sym (append-assoc js ks ls)
 
 module _ (S : Signature) (e : Environment) where
-  walk-nil : (ks : List ℕ) → walk S e ks [] ≡ Ok 0
-  walk-nil [] = refl
-  walk-nil (k ∷ ks) = refl
-
   later-follow : (ls : List ℕ) (x : ℕ) (w : List ℕ) (r : Result ℕ ℕ) → later (follow r (λ n. walk S e ls (drop n w))) ≡ follow (later r) (λ n. walk S e ls (drop n (x ∷ w)))
   later-follow ls x w (Ok n) = later-past n (walk S e ls (drop n w)) ∙ ap (λ k. past (n + 1) (walk S e ls (drop k (x ∷ w)))) (sym (add-one n))
   later-follow ls x w (Err i) = refl
@@ -65,7 +61,7 @@ module _ (S : Signature) (e : Environment) where
   walk-split : (w ks ls : List ℕ) → walk S e (ks ++ ls) w ≡ follow (walk S e ks w) (λ n. walk S e ls (drop n w))
   walk-split [] [] ls = sym (past-zero (walk S e ls []))
   walk-split (x ∷ w) [] ls = sym (past-zero (walk S e ls (x ∷ w)))
-  walk-split [] (k ∷ ks) ls = ap (past 0) (sym (walk-nil ls))
+  walk-split [] (k ∷ ks) ls = refl
   walk-split (x ∷ w) (k ∷ ks) ls = go (suits S e x k)
       (ap later (ap (λ (l : List ℕ). walk S e l w) (due-append (args-of S x) ks ls) ∙ walk-split w (due-after (args-of S x) ks) ls) ∙ later-follow ls x w (walk S e (due-after (args-of S x) ks) w))
     where
@@ -96,12 +92,9 @@ module _ (S : Signature) (e : Environment) where
   next-sort : (ks w : List ℕ) (i at : ℕ) → Walked ks w i at → i < length ks → walk S e ks w ≡ past at (walk S e (getD ks i 0 ∷ drop (i + 1) ks) (drop at w))
   next-sort ks w i at h l = h ∙ ap (λ (js : List ℕ). past at (walk S e js (drop at w))) (drop-more ks i 0 l)
 
-  pub walked-none : (ks w : List ℕ) → Walked ks w 0 0
-  walked-none ks w = sym (past-zero (walk S e ks w))
-
-  pub walked-out : (ks w : List ℕ) (i at : ℕ) → Walked ks w i at → i < length ks → length w ≤ at → walk S e ks w ≡ Ok at
+  pub walked-out : (ks w : List ℕ) (i at : ℕ) → Walked ks w i at → i < length ks → length w ≤ at → walk S e ks w ≡ Err at
   walked-out ks w i at h l m =
-      next-sort ks w i at h l ∙ ap (λ (v : List ℕ). past at (walk S e (getD ks i 0 ∷ drop (i + 1) ks) v)) (drop-all at w m) ∙ ap Ok (add-zero at)
+      next-sort ks w i at h l ∙ ap (λ (v : List ℕ). past at (walk S e (getD ks i 0 ∷ drop (i + 1) ks) v)) (drop-all at w m) ∙ ap Err (add-zero at)
 
   pub walked-wrong : (ks w : List ℕ) (i at x : ℕ) (v : List ℕ) → Walked ks w i at → i < length ks → drop at w ≡ x ∷ v → suits S e x (getD ks i 0) ≡ false → walk S e ks w ≡ Err at
   walked-wrong ks w i at x v h l d q =

@@ -1,5 +1,4 @@
 -- The faults of a word that is to be a term. Assumes nothing.
-use mathlib.Core.Path.{_≡_}
 use mathlib.Core.List.{List, [], _∷_, _++_}
 use mathlib.Core.Bool.{Bool, true, false, cond, _||_}
 use Prim.Native.Nat.{ℕ, _+_}
@@ -29,6 +28,7 @@ first-not p (x ∷ w) = cond (p x) (more (first-not p w)) (Some 0)
 abbrev pub any-root : Root → Bool
 any-root r = true
 
+-- whether a number is such a letter
 abbrev pub is-declared : Signature → ℕ → Bool
 is-declared S x = passes any-root (root-of S x)
 
@@ -38,6 +38,7 @@ closed-root (variable v) = false
 closed-root (head c) = true
 closed-root (call f) = true
 
+-- whether a number is such a letter
 abbrev pub is-closed : Signature → ℕ → Bool
 is-closed S x = passes closed-root (root-of S x)
 
@@ -47,6 +48,7 @@ value-root (variable v) = false
 value-root (head c) = true
 value-root (call f) = false
 
+-- whether a number is such a letter
 abbrev pub is-in-value : Signature → ℕ → Bool
 is-in-value S x = passes value-root (root-of S x)
 
@@ -55,7 +57,7 @@ abbrev pub nowhere : Option ℕ → Bool
 nowhere None = true
 nowhere (Some i) = false
 
--- whether a word is a value: it has no other letters
+-- whether a word has no other letters; on the word of a term: whether it is a value
 abbrev pub is-value : Signature → List ℕ → Bool
 is-value S w = nowhere (first-not (is-in-value S) w)
 
@@ -64,6 +66,7 @@ abbrev pub past-end : ℕ → Option ℕ → Option ℕ
 past-end len None = Some len
 past-end len (Some n) = cond (ltb n len) (Some n) None
 
+-- the place where a word is not one whole term
 abbrev pub not-whole : Signature → List ℕ → Option ℕ
 not-whole S w = past-end (length w) (part-end S w)
 
@@ -81,10 +84,10 @@ abbrev pub due-after : Option (List ℕ) → List ℕ → List ℕ
 due-after None ks = ks
 due-after (Some ls) ks = ls ++ ks
 
--- along a word with the sorts that are still due: where the terms due end, or the first letter that has not the sort due there
+-- along a word with the sorts that are still due: where the terms due end, or the first place that has not the sort due there, be it the end of the word
 abbrev pub walk : Signature → Environment → List ℕ → List ℕ → Result ℕ ℕ
 walk S e [] w = Ok 0
-walk S e (k ∷ ks) [] = Ok 0
+walk S e (k ∷ ks) [] = Err 0
 walk S e (k ∷ ks) (x ∷ w) = cond (suits S e x k) (later (walk S e (due-after (args-of S x) ks) w)) (Err 0)
 
 -- the place of the wrong letter
@@ -104,6 +107,7 @@ lawful-letter lawful (Some (Cell-letter n)) = lawful n
 lawful-letter lawful (Some (Symbol s)) = true
 lawful-letter lawful (Some (Variable v)) = true
 
+-- whether a number is no cell or a lawful one
 abbrev pub is-lawful : (ℕ → Bool) → ℕ → Bool
 is-lawful lawful x = lawful-letter lawful (letter-of x)
 

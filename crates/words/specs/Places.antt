@@ -31,5 +31,6 @@ part-at S p w = onward (place S p w) (λ n. mapped (λ l. record { start = n; le
 abbrev pub letters-of : Part → List ℕ → List ℕ
 letters-of q w = take (q .len) (drop (q .start) w)
 
+-- the word with other letters in the place of a part
 abbrev pub replaced : Part → List ℕ → List ℕ → List ℕ
 replaced q w v = take (q .start) w ++ (v ++ drop (q .start + q .len) w)

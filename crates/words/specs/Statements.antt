@@ -1,6 +1,6 @@
 -- What is proved of words. Assumes nothing.
 use mathlib.Core.Path.{_≡_}
-use mathlib.Core.List.{List, [], _∷_, _++_}
+use mathlib.Core.List.{List}
 use mathlib.Core.Bool.{Bool, true}
 use mathlib.Core.Logic.{_↔_}
 use Prim.Native.Nat.{ℕ, _≤_}
@@ -8,7 +8,7 @@ use lib.ListN.{length}
 use Rattle.std.specs.declared.option.Option.{Option}
 use Rattle.std.specs.declared.option.Option.the-variants.{Some, None}
 use Rattle.std.specs.declared.result.Result.{Result}
-use Rattle.std.specs.declared.result.Result.the-variants.{Ok, Err}
+use Rattle.std.specs.declared.result.Result.the-variants.{Ok}
 use Rattle.words.specs.declared.fault.WordFault.{WordFault}
 use Rattle.words.specs.declared.part.Part.{Part}
 use Rattle.terms.specs.Terms.{Term, Closed, Value}
@@ -20,8 +20,8 @@ use Rattle.terms.specs.Positions.{part, graft}
 use Rattle.words.specs.Places.{letters-of, replaced}
 
 -- `read` and `word` undo each other
-abbrev pub Reads-back : Type 0
-Reads-back = (S : Signature) (w : List ℕ) (t : Term) → (read S w ≡ Some t) ↔ ((word t ≡ w) × Fits S t)
+abbrev pub Reads-back : Signature → List ℕ → Type 0
+Reads-back S w = (t : Term) → (read S w ≡ Some t) ↔ ((word t ≡ w) × Fits S t)
 
 -- the end of a part is what the finding finds
 abbrev pub Found : Signature → List ℕ → Option ℕ → Type 0
@@ -35,17 +35,17 @@ Length-in-front S w r = ((n : ℕ) → (r ≡ Some n) ↔ Begins S w n) × ((r �
 abbrev pub Tells-whole : Signature → List ℕ → Option ℕ → Type 0
 Tells-whole S w r = (r ≡ None) ↔ ((t : Term) × (word t ≡ w) × Fits S t)
 
--- the walk goes through exactly at the words of terms of the sort due
+-- on the word of a term that fits, the walk goes through exactly when the term has the sort due
 abbrev pub Finds-sort : Signature → Environment → ℕ → List ℕ → Result ℕ ℕ → Type 0
 Finds-sort S e k w r = (t : Term) → Fits S t → word t ≡ w → (r ≡ Ok (length w)) ↔ Sorted S e t k
 
 -- the word of a closed term of some sort, of at most n letters
-abbrev pub Takes : Signature → ℕ → List ℕ → Type 0
-Takes S n w = (t : Term) × (k : ℕ) × (word t ≡ w) × (length w ≤ n) × Closed t × Sorted S closed t k
+abbrev pub Closed-word : Signature → ℕ → List ℕ → Type 0
+Closed-word S n w = (t : Term) × (k : ℕ) × (word t ≡ w) × (length w ≤ n) × Closed t × Sorted S closed t k
 
 -- and each of its cells is lawful
-abbrev pub Takes-lawful : Signature → (ℕ → Bool) → ℕ → List ℕ → Type 0
-Takes-lawful S lawful n w = (t : Term) × (k : ℕ) × (word t ≡ w) × (length w ≤ n) × Closed t × Sorted S closed t k × Lawful lawful t
+abbrev pub Lawful-closed-word : Signature → (ℕ → Bool) → ℕ → List ℕ → Type 0
+Lawful-closed-word S lawful n w = (t : Term) × (k : ℕ) × (word t ≡ w) × (length w ≤ n) × Closed t × Sorted S closed t k × Lawful lawful t
 
 -- no fault exactly there
 abbrev pub No-fault-at : Type 0 → Option WordFault → Type 0
@@ -60,5 +60,6 @@ abbrev pub Cuts : Term → List ℕ → List ℕ → Option Term → Option Part
 Cuts t p w None r = r ≡ None
 Cuts t p w (Some u) r = (q : Part) × (r ≡ Some q) × (letters-of q w ≡ word u) × ((s : Term) → replaced q w (word s) ≡ word (graft t p s))
 
+-- and so for the term whose word it is
 abbrev pub Cuts-part : Signature → List ℕ → List ℕ → Option Part → Type 0
 Cuts-part S p w r = (t : Term) → Fits S t → word t ≡ w → Cuts t p w (part t p) r

@@ -1,7 +1,7 @@
 -- The word of a term, and the term of a word. Assumes nothing.
 use mathlib.Core.Path.{_≡_}
 use mathlib.Core.List.{List, [], _∷_, _++_}
-use mathlib.Core.Bool.{Bool, cond}
+use mathlib.Core.Bool.{cond}
 use Prim.Native.Nat.{ℕ, zero, suc}
 use lib.Dec.{leb}
 use lib.ListN.{length}
@@ -40,6 +40,7 @@ front zero ts = nil
 front (suc n) nil = nil
 front (suc n) (t ▸ ts) = t ▸ front n ts
 
+-- and those after them
 abbrev pub rest : ℕ → Terms → Terms
 rest zero ts = ts
 rest (suc n) nil = nil

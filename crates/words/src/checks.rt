@@ -1,11 +1,11 @@
+// What is wrong with a word that is no term, and whether it is a value.
 ghost use mathlib.Core.Path.{_≡_};
 ghost use mathlib.Core.List.{[], _∷_};
-ghost use Prim.Native.Nat.{_≤_, _<_};
+ghost use Prim.Native.Nat.{_≤_};
 ghost use lib.ListN.{length};
 ghost use Rattle.std.specs.declared.result.Result.the-variants.{Ok, Err};
-ghost use Rattle.terms.specs.Sorting.{closed};
 ghost use Rattle.words.specs.Faults.{first-not, is-declared, is-closed, is-in-value, is-value, not-whole, suits, walk, wrong-argument, word-fault};
-ghost use Rattle.words.specs.Statements.{Tells-whole, Finds-sort, Takes, No-fault-at, Tells-value};
+ghost use Rattle.words.specs.Statements.{Reads-back, Tells-whole, Finds-sort, Closed-word, No-fault-at, Tells-value};
 ghost use Rattle.terms.specs.Views.{view, given};
 use crate::fault::WordFault;
 use crate::parts::part_end;
@@ -54,6 +54,7 @@ pub fn is_value(signature: &Signature, word: &[u64]) -> bool
 pub fn not_whole(signature: &Signature, word: &[u64]) -> Option<usize>
     ensures value { λ r. ⌜ r ≡ not-whole (view (now (signature .entry))) (now (word .entry)) ⌝ }
     ensures tells { λ r. ⌜ Tells-whole (view (now (signature .entry))) (now (word .entry)) r ⌝ }
+    ensures reads { λ _. ⌜ Reads-back (view (now (signature .entry))) (now (word .entry)) ⌝ }
 {
     match part_end(signature, word) {
         Some(end) if end < word.len() => Some(end),
@@ -62,7 +63,7 @@ pub fn not_whole(signature: &Signature, word: &[u64]) -> Option<usize>
     }
 }
 
-// Where the term of the sort due that a word begins with ends, or the first letter in it that has not the sort due there.
+// Where the term of the sort due that a word begins with ends, or the first place in it that has not the sort due there.
 pub fn sorts_end(
     signature: &Signature,
     variables: &[Option<u8>],
@@ -95,13 +96,13 @@ fn walk(
     word: &[u64],
     due: &[u8],
 ) -> Result<usize, usize>
-    ensures within { λ r. ⌜ elim r [ Ok n ↦ n ≤ length (now (word .entry)) | Err i ↦ i < length (now (word .entry)) ] ⌝ }
+    ensures within { λ r. ⌜ elim r [ Ok n ↦ n ≤ length (now (word .entry)) | Err i ↦ i ≤ length (now (word .entry)) ] ⌝ }
     ensures value { λ r. ⌜ r ≡ walk (view (now (signature .entry))) (given (now (variables .entry))) (now (due .entry)) (now (word .entry)) ⌝ }
 {
     let mut at = 0;
     for sort in due {
         let [first, rest @ ..] = &word[at..] else {
-            return Ok(at);
+            return Err(at);
         };
         let Some(arguments) = signature.arguments(*first) else {
             return Err(at);
@@ -120,7 +121,7 @@ fn walk(
 // The first fault of a word that is to be a closed term of at most so many letters.
 pub fn word_fault(signature: &Signature, most: usize, word: &[u64]) -> Option<WordFault>
     ensures value { λ r. ⌜ r ≡ word-fault (view (now (signature .entry))) most (now (word .entry)) ⌝ }
-    ensures exact { λ r. ⌜ No-fault-at (Takes (view (now (signature .entry))) most (now (word .entry))) r ⌝ }
+    ensures exact { λ r. ⌜ No-fault-at (Closed-word (view (now (signature .entry))) most (now (word .entry))) r ⌝ }
 {
     if word.len() == 0 || word.len() > most {
         return Some(WordFault::Length);

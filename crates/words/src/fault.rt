@@ -1,7 +1,8 @@
+// The faults of words.
 ghost use mathlib.Core.Path.{_≡_};
 ghost use Rattle.words.specs.Faults.{numbered};
 
-// Why a word is not a term that may stand, with the place of the first letter at fault.
+// Why a word is no closed term, with the index of the first letter at fault.
 #[derive(Clone, Copy, PartialEq, Debug)]
 pub enum WordFault {
     Length,

@@ -1,6 +1,7 @@
+// Lawful cells in words.
 ghost use mathlib.Core.Path.{_≡_};
 ghost use Rattle.words.specs.Faults.{first-not, is-lawful, lawful-fault};
-ghost use Rattle.words.specs.Statements.{Takes-lawful, No-fault-at};
+ghost use Rattle.words.specs.Statements.{Lawful-closed-word, No-fault-at};
 ghost use Rattle.terms.specs.Views.{view};
 use crate::checks::word_fault;
 use crate::fault::WordFault;
@@ -16,7 +17,7 @@ pub fn lawful_word_fault<K: NumberKind>(
     word: &[u64],
 ) -> Option<WordFault>
     ensures value { λ r. ⌜ r ≡ lawful-fault (view (now (signature .entry))) (K·NumberKind .meaning (now (kind .entry)) .lawful) most (now (word .entry)) ⌝ }
-    ensures exact { λ r. ⌜ No-fault-at (Takes-lawful (view (now (signature .entry))) (K·NumberKind .meaning (now (kind .entry)) .lawful) most (now (word .entry))) r ⌝ }
+    ensures exact { λ r. ⌜ No-fault-at (Lawful-closed-word (view (now (signature .entry))) (K·NumberKind .meaning (now (kind .entry)) .lawful) most (now (word .entry))) r ⌝ }
 {
     if let Some(fault) = word_fault(signature, most, word) {
         return Some(fault);

@@ -4,7 +4,6 @@ pub mod fault;
 pub mod lawful;
 pub mod part;
 pub mod parts;
-pub mod theorems;
 
 #[cfg(test)]
 mod tests {
@@ -57,11 +56,16 @@ mod tests {
         check_eq(fault(&s, &[UP, UP, UP, UP, ZERO]), Some((31, 0)))?;
         check_eq(fault(&s, &[UP, UP, UP, ZERO]), None)?;
         check_eq(fault(&s, &[MEET, X, ZERO]), Some((32, 1)))?;
+        check_eq(fault(&s, &[MEET, X, X]), Some((32, 1)))?;
         check_eq(fault(&s, &[UP, MEET + 1]), Some((32, 1)))?;
+        check_eq(fault(&s, &[UP, PLUS + 96]), Some((32, 1)))?;
+        check_eq(fault(&s, &[ZERO, X]), Some((32, 1)))?;
         check_eq(fault(&s, &[MEET, ZERO]), Some((33, 2)))?;
         check_eq(fault(&s, &[ZERO, UP, ZERO]), Some((33, 1)))?;
         check_eq(fault(&s, &[MEET, ZERO, TRUE]), Some((34, 2)))?;
-        check_eq(fault(&s, &[PLUS, 5, 1_000_000]), Some((35, 2)))
+        check_eq(fault(&s, &[MEET, TRUE, TRUE]), Some((34, 1)))?;
+        check_eq(fault(&s, &[PLUS, 5, 1_000_000]), Some((35, 2)))?;
+        check_eq(fault(&s, &[PLUS, 1_000_000, 1_000_000]), Some((35, 1)))
     }
 
     #[test]

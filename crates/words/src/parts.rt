@@ -1,3 +1,4 @@
+// Where the parts of a word end and stand.
 ghost use mathlib.Core.Path.{_≡_};
 ghost use Prim.Native.Nat.{_≤_};
 ghost use lib.ListN.{length};
@@ -9,19 +10,26 @@ ghost use Rattle.terms.specs.Views.{view};
 use crate::part::Part;
 use terms::signature::Signature;
 
-// The length of the part that a word begins with: its first letter, then each argument.
+// The length of the part that a word begins with.
 pub fn part_end(signature: &Signature, word: &[u64]) -> Option<usize>
-    ensures within { λ r. ⌜ BySome r (Unit {0}) (λ n. n ≤ length (now (word .entry))) ⌝ }
     ensures value { λ r. ⌜ r ≡ part-end (view (now (signature .entry))) (now (word .entry)) ⌝ }
     ensures found { λ r. ⌜ Found (view (now (signature .entry))) (now (word .entry)) r ⌝ }
     ensures front { λ r. ⌜ Length-in-front (view (now (signature .entry))) (now (word .entry)) r ⌝ }
+{
+    find_end(signature, word)
+}
+
+// The same finding: the first letter, then each argument.
+fn find_end(signature: &Signature, word: &[u64]) -> Option<usize>
+    ensures within { λ r. ⌜ BySome r (Unit {0}) (λ n. n ≤ length (now (word .entry))) ⌝ }
+    ensures value { λ r. ⌜ r ≡ part-end (view (now (signature .entry))) (now (word .entry)) ⌝ }
 {
     let [first, rest @ ..] = word else {
         return None;
     };
     let mut at = 0;
     for _ in 0..signature.arity(*first)? {
-        at += part_end(signature, &rest[at..])?;
+        at += find_end(signature, &rest[at..])?;
     }
     Some(at + 1)
 }
@@ -32,7 +40,7 @@ pub fn part(signature: &Signature, word: &[u64], path: &[u8]) -> Option<Part>
     ensures cuts { λ r. ⌜ Cuts-part (view (now (signature .entry))) (now (path .entry)) (now (word .entry)) r ⌝ }
 {
     let start = place(signature, word, path)?;
-    let len = part_end(signature, &word[start..])?;
+    let len = find_end(signature, &word[start..])?;
     Some(Part { start, len })
 }
 
@@ -61,7 +69,7 @@ fn argument(signature: &Signature, word: &[u64], number: u8) -> Option<usize>
     }
     let mut at = 0;
     for _ in 1..number {
-        at += part_end(signature, &rest[at..])?;
+        at += find_end(signature, &rest[at..])?;
     }
     Some(at + 1)
 }

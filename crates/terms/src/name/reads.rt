@@ -1,3 +1,4 @@
+// Making names and reading them.
 ghost use mathlib.Core.Path.{_≡_};
 ghost use mathlib.Core.Bool.{true};
 ghost use Rattle.std.specs.shelf.Text.{sameBytes};

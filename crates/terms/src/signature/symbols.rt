@@ -1,3 +1,4 @@
+// What a signature says of its sorts, symbols and letters.
 ghost use mathlib.Core.Path.{_≡_};
 ghost use mathlib.Core.List.{[]};
 ghost use lib.ListN.{length};

@@ -5,7 +5,7 @@ use Rattle.std.specs.declared.option.Option.the-variants.{Some, None}
 use Rattle.words.specs.declared.fault.WordFault.{WordFault}
 use Rattle.words.specs.declared.fault.WordFault.the-variants.{Length, Letter, Whole, Sort}
 use Rattle.words.specs.Faults.{word-fault}
-use Rattle.words.specs.Statements.{Takes, No-fault-at}
+use Rattle.words.specs.Statements.{Closed-word, No-fault-at}
 use Rattle.terms.specs.Views.{view}
 use Rattle.words.proofs.Faultless.{takes}
 use Rattle.words.proofs.checks.word_fault.Needs as need
@@ -16,7 +16,7 @@ returns-then-word-eq0 c =
     let n = c .args .most in
     let w = c .args .word .now in
     let e : Some Length ≡ word-fault S n w = search needs in
-    record { value = e; exact = subst (No-fault-at (Takes S n w)) (sym e) (takes S n w) }
+    record { value = e; exact = subst (No-fault-at (Closed-word S n w)) (sym e) (takes S n w) }
 
 pub returns-in-Some : need.returns-in-Some
 returns-in-Some c =
@@ -24,7 +24,7 @@ returns-in-Some c =
     let n = c .args .most in
     let w = c .args .word .now in
     let e : Some (Letter (c .in-Some .at)) ≡ word-fault S n w = search needs in
-    record { value = e; exact = subst (No-fault-at (Takes S n w)) (sym e) (takes S n w) }
+    record { value = e; exact = subst (No-fault-at (Closed-word S n w)) (sym e) (takes S n w) }
 
 pub returns-in-Some-not-whole : need.returns-in-Some-not-whole
 returns-in-Some-not-whole c =
@@ -32,7 +32,7 @@ returns-in-Some-not-whole c =
     let n = c .args .most in
     let w = c .args .word .now in
     let e : Some (Whole (c .in-Some-not-whole .at)) ≡ word-fault S n w = search needs in
-    record { value = e; exact = subst (No-fault-at (Takes S n w)) (sym e) (takes S n w) }
+    record { value = e; exact = subst (No-fault-at (Closed-word S n w)) (sym e) (takes S n w) }
 
 pub returns-in-Some-wrong-argument : need.returns-in-Some-wrong-argument
 returns-in-Some-wrong-argument c =
@@ -40,7 +40,7 @@ returns-in-Some-wrong-argument c =
     let n = c .args .most in
     let w = c .args .word .now in
     let e : Some (Sort (c .in-Some-wrong-argument .at)) ≡ word-fault S n w = search needs in
-    record { value = e; exact = subst (No-fault-at (Takes S n w)) (sym e) (takes S n w) }
+    record { value = e; exact = subst (No-fault-at (Closed-word S n w)) (sym e) (takes S n w) }
 
 pub returns-in-None : need.returns-in-None
 returns-in-None c =
@@ -48,4 +48,4 @@ returns-in-None c =
     let n = c .args .most in
     let w = c .args .word .now in
     let e : None ≡ word-fault S n w = search needs in
-    record { value = e; exact = subst (No-fault-at (Takes S n w)) (sym e) (takes S n w) }
+    record { value = e; exact = subst (No-fault-at (Closed-word S n w)) (sym e) (takes S n w) }

@@ -4,7 +4,7 @@ use Rattle.std.specs.declared.option.Option.{Option}
 use Rattle.std.specs.declared.option.Option.the-variants.{Some, None}
 use Rattle.words.specs.declared.fault.WordFault.the-variants.{Cell}
 use Rattle.words.specs.Faults.{lawful-fault}
-use Rattle.words.specs.Statements.{Takes-lawful, No-fault-at}
+use Rattle.words.specs.Statements.{Lawful-closed-word, No-fault-at}
 use Rattle.terms.specs.Views.{view}
 use Rattle.words.proofs.Faultless.{takes-lawful}
 use Rattle.words.proofs.lawful.lawful_word_fault.Needs as need
@@ -16,7 +16,7 @@ returns-in-Some g c =
     let n = c .args .most in
     let w = c .args .word .now in
     let e : Some (c .in-Some .fault) ≡ lawful-fault S l n w = search needs in
-    record { value = e; exact = subst (No-fault-at (Takes-lawful S l n w)) (sym e) (takes-lawful S l n w) }
+    record { value = e; exact = subst (No-fault-at (Lawful-closed-word S l n w)) (sym e) (takes-lawful S l n w) }
 
 pub returns-in-Some-unlawful-cell : need.returns-in-Some-unlawful-cell
 returns-in-Some-unlawful-cell g c =
@@ -25,7 +25,7 @@ returns-in-Some-unlawful-cell g c =
     let n = c .args .most in
     let w = c .args .word .now in
     let e : Some (Cell (c .in-Some-unlawful-cell .at)) ≡ lawful-fault S l n w = search needs in
-    record { value = e; exact = subst (No-fault-at (Takes-lawful S l n w)) (sym e) (takes-lawful S l n w) }
+    record { value = e; exact = subst (No-fault-at (Lawful-closed-word S l n w)) (sym e) (takes-lawful S l n w) }
 
 pub returns-in-None : need.returns-in-None
 returns-in-None g c =
@@ -34,4 +34,4 @@ returns-in-None g c =
     let n = c .args .most in
     let w = c .args .word .now in
     let e : None ≡ lawful-fault S l n w = search needs in
-    record { value = e; exact = subst (No-fault-at (Takes-lawful S l n w)) (sym e) (takes-lawful S l n w) }
+    record { value = e; exact = subst (No-fault-at (Lawful-closed-word S l n w)) (sym e) (takes-lawful S l n w) }

@@ -15,8 +15,8 @@ use Rattle.terms.specs.Roots.{arity}
 use Rattle.words.specs.Ends.{end-of, part-end}
 use Rattle.terms.specs.Views.{view}
 use Rattle.terms.proofs.Options.{ahead-zero}
-use Rattle.words.proofs.Ends.{passed, stopped, arrived, part-end-letter, part-end-none, within-of, found-of, front-of}
-use Rattle.words.proofs.parts.+part_end.Needs as need
+use Rattle.words.proofs.Ends.{passed, stopped, arrived, part-end-letter, part-end-none, within-of}
+use Rattle.words.proofs.parts.+find_end.Needs as need
 
 -- the part that a word begins with, by its first letter and the rest
 whole : (S : Signature) (W : List ℕ) (k : ℕ) (o : Option ℕ) → 0 < length W → Some k ≡ arity S (getD W 0 0) → end-of S k (between 1 (length W) W) ≡ o → part-end S W ≡ more o
@@ -28,7 +28,7 @@ returns-in-rest t c =
     let W = c .args .word .now in
     let z : length W ≡ 0 = search needs in
     let e = sym (ap (part-end S) (nil-from-length W z)) in
-    record { within = tt; value = e; found = found-of S W None e; front = front-of S W None e }
+    record { within = tt; value = e }
 
 pub returns-in-Break-end : need.returns-in-Break-end
 returns-in-Break-end t c =
@@ -37,7 +37,7 @@ returns-in-Break-end t c =
     let some : 0 < length W = search needs in
     let r = c .from-residual .result in
     let e = c .from-residual .ensures ∙ sym (ap (part-end S) (first-rest W 0 some) ∙ part-end-none S (getD W 0 0) (between 1 (length W) W) (sym (c .in-Break-end .ensures tt))) in
-    record { within = within-of S W r e; value = e; found = found-of S W r e; front = front-of S W r e }
+    record { within = within-of S W r e; value = e }
 
 pub loop-holds : need.loop-holds
 loop-holds t c =
@@ -59,7 +59,7 @@ returns-in-Break-at t c =
     let l : 0 < k - c .loop .counter = omega (arith, c .loop-test .taken) in
     let r = c .from-residual-in-Break-at .result in
     let e = c .from-residual-in-Break-at .ensures ∙ sym (whole S W k None some (c .in-Continue-end .ensures tt) (c .loop .inv .1 ∙ stopped S (k - c .loop .counter) (c .loop .at) R l h)) in
-    record { within = within-of S W r e; value = e; found = found-of S W r e; front = front-of S W r e }
+    record { within = within-of S W r e; value = e }
 
 pub loop-again : need.loop-again
 loop-again t c =
@@ -85,4 +85,4 @@ returns t c =
     let some : 0 < length W = search needs in
     let l : k - c .loop .counter ≡ 0 = omega (arith, c .loop-test .left) in
     let e = sym (whole S W k (Some at) some (c .in-Continue-end .ensures tt) (c .loop .inv .1 ∙ arrived S (k - c .loop .counter) at R l)) in
-    record { within = within-of S W (Some (at + 1)) e; value = e; found = found-of S W (Some (at + 1)) e; front = front-of S W (Some (at + 1)) e }
+    record { within = within-of S W (Some (at + 1)) e; value = e }
