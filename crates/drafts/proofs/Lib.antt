@@ -1,0 +1,15 @@
+pub mod Lists
+pub mod Verdicts
+pub mod Stores
+pub mod Kept
+pub mod Declared
+pub mod Firsts
+pub mod Dues
+pub mod LeftSorts
+pub mod Turns
+pub mod Pools
+pub mod Ruled
+pub mod RuleTerms
+pub mod SoundRules
+pub mod Sound
+pub mod Examples

@@ -1,0 +1,9 @@
+pub mod Faults
+pub mod Drafts
+pub mod Contents
+pub mod Rules
+pub mod Views
+pub mod Soundness
+pub mod Stores
+pub mod Dues
+pub mod Statements

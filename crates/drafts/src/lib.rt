@@ -1,0 +1,6 @@
+// Drafts: a book while it is written.
+pub mod draft;
+mod due;
+pub mod fault;
+mod shape;
+mod span;
