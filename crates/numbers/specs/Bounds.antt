@@ -1,20 +1,20 @@
 -- Limits on a sound meaning are sound. Assumes nothing.
 use Rattle.std.specs.Prelude.{◌≡◌, ℕ, ◌^◌, ◌<◌, true, cond, ◌&&◌, refl}
 use Rattle.std.proofs.Common.{inl, inr, arith}
-use Rattle.std.proofs.lemmas.Bool.{and_parts, and_from, cond_both, eqb_true, eq-eqb}
+use Rattle.std.proofs.lemmas.Bool.{and_parts, and_from, cond_both, eqb-true, eq-eqb}
 use Rattle.numbers.specs.Meaning.{Meaning, Lawful, Atmost, Sound}
 use Rattle.numbers.specs.Limits.{within, held, between, are_ends, only, stored}
 
 -- one cell of 32 bits alone is sound
 pub only_sound : (l : ℕ) → l < 2 ^ 32 → Sound (only l)
 only_sound l fits = record {
-  cells = λ a h. let e = eqb_true a l h in omega arith;
+  cells = λ a h. let e = eqb-true a l h in omega arith;
   rest_lawful = eq-eqb l l refl;
   plus_lawful = λ a b h k. eq-eqb l l refl;
   minus_lawful = λ a b h k. eq-eqb l l refl;
-  comparable = λ a b h k. let p = eqb_true a l h in let q = eqb_true b l k in inl (eq-eqb a b (omega arith));
-  transitive = λ a b c h k i p q. let r = eqb_true a l h in let s = eqb_true c l i in eq-eqb a c (omega arith);
-  antisymmetric = λ a b h k p q. eqb_true a b p;
+  comparable = λ a b h k. let p = eqb-true a l h in let q = eqb-true b l k in inl (eq-eqb a b (omega arith));
+  transitive = λ a b c h k i p q. let r = eqb-true a l h in let s = eqb-true c l i in eq-eqb a c (omega arith);
+  antisymmetric = λ a b h k p q. eqb-true a b p;
 }
 
 module _ (m : Meaning) (s : Sound m) where

@@ -1,4 +1,6 @@
 // Number kinds: what a 32-bit cell means, and the arithmetic on it.
+#![tactic(auto)]
+
 mod kind;
 mod limits;
 mod pulses;

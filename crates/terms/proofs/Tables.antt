@@ -2,7 +2,7 @@
 use Rattle.std.proofs.Common.{◌≡◌, ℕ, zero, suc, ◌+◌, ◌<◌, ◌≤◌, Bool, true, false, cond, ◌&&◌, ltb, leb, List, [], ◌∷◌, ◌++◌, map, length, get_or, take, set, Some, None, Option, sym, refl, ap, ◌∙◌, subst, arith}
 use Rattle.std.specs.List.{slice_get}
 use Rattle.std.proofs.lemmas.Option.{slice_get_past}
-use Rattle.std.proofs.lemmas.List.{length-take-le, length-map, take_more_set, map_push, get_or_map, get_or-take}
+use Rattle.std.proofs.lemmas.List.{length-take-le, length-map, take_more_set, map_push, get_or-map, get_or-take}
 use Rattle.std.proofs.lemmas.Bool.{cond-true, cond-false, lt-ltb, le-ltb, le-leb, lt-leb, leb-true, and_from, and_left, and_right}
 use Rattle.terms.specs.declared.name.Name.{Name}
 use Rattle.terms.specs.declared.signature.Entry.{Entry}
@@ -26,7 +26,7 @@ module _ {X Y : Type 0} (f : X → Y) where
   nth_unseen xs n i h l = slice_get_past (map f (take n xs)) i (let e = length_seen xs n l in omega arith)
 
   pub getD_seen : (xs : List X) (n i : ℕ) (d : X) (e : Y) → i < n → n ≤ length xs → get_or (map f (take n xs)) i e ≡ f (get_or xs i d)
-  getD_seen xs n i d e h l = get_or_map f (take n xs) i d e (let q = length-take-le n xs l in omega arith) ∙ ap f (get_or-take n xs i d h)
+  getD_seen xs n i d e h l = get_or-map f (take n xs) i d e (let q = length-take-le n xs l in omega arith) ∙ ap f (get_or-take n xs i d h)
 
   pub seen_more : (xs : List X) (n : ℕ) (x : X) → n < length xs → map f (take (n + 1) (set xs n x)) ≡ map f (take n xs) ++ (f x ∷ [])
   seen_more xs n x h = ap (map f) (take_more_set xs n x h) ∙ map_push f (take n xs) x
@@ -62,7 +62,7 @@ module _ (g : Table) where
 
   pub symbol_name_in : (i : ℕ) (d : Entry) → i < g.symbol_count → get_or symbol_names i [] ≡ bytes_of (get_or g.symbols i d).name
   symbol_name_in i d h =
-      get_or_map (λ (y : Declaration). y.name) (view g).symbols i (declaration d) [] (let e = length_symbols in omega arith)
+      get_or-map (λ (y : Declaration). y.name) (view g).symbols i (declaration d) [] (let e = length_symbols in omega arith)
       ∙ ap (λ (y : Declaration). y.name) (getD_seen declaration g.symbols g.symbol_count i d (declaration d) h (let a = g.symbols_fit in let b = g.symbols_long in omega arith))
 
 -- what adding comes to

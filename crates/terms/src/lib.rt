@@ -1,4 +1,6 @@
 // Letters, names, terms and signatures.
+#![tactic(auto)]
+
 pub mod letter;
 pub mod name;
 pub mod signature;

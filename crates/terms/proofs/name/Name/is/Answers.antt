@@ -8,4 +8,4 @@ tested : (r : Bool) (xs zs ys : List ℕ) → xs ≡ zs → Decides r (xs ≡ ys
 tested r xs zs ys e d = search (rules, bytes_eq-Decides)
 
 pub returns : goal.returns
-returns c = tested c.eq.result _ _ _ c.as-bytes.ensures (slice_eq-Decides Decides-eqb _ _ _ c.eq.ensures)
+returns c = tested c.eq.result _ _ _ c.as_bytes.ensures (slice_eq-Decides Decides-eqb _ _ _ c.eq.ensures)

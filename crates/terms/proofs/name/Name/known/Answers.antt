@@ -18,4 +18,4 @@ invariant-of-result c =
     (copied_long l bs twelve e (few bs c.requires), (few bs c.requires, (ap well_formed (copied_front l bs _ e) ∙ c.requires, tt)))
 
 pub returns : goal.returns
-returns c = copied_front c.copy-from-slice.new.self c.args.bytes.now _ c.copy-from-slice.ensures.after
+returns c = copied_front c.copy_from_slice.new.self c.args.bytes.now _ c.copy_from_slice.ensures.after

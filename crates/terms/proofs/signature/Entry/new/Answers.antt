@@ -13,5 +13,5 @@ invariant-of-result c = (copied_long c.copy-from-slice.new.self c.args.args.now 
 pub returns : goal.returns
 returns c =
     let ks = c.args.args.now in
-    ap (λ (ls : List ℕ). Some (declaring c.args.role c.args.name ls c.args.sort)) (copied_front c.copy-from-slice.new.self ks _ c.copy-from-slice.ensures.after)
-    ∙ sym (cond-true (leb (length ks) 4) _ _ (le-leb (length ks) 4 c.if-args-gt-MOST-ARGUMENTS.false))
+    ap (λ (ls : List ℕ). Some (declaring c.args.role c.args.name ls c.args.sort)) (copied_front c.copy_from_slice.new.self ks _ c.copy_from_slice.ensures.after)
+    ∙ sym (cond-true (leb (length ks) 4) _ _ (le-leb (length ks) 4 c.if-args-gt-MOST_ARGUMENTS.false))

@@ -15,10 +15,10 @@ returns-then-self-eq-MOST-SYMBOLS c =
 pub returns : goal.returns
 returns c =
     let g = c.args.self.now in
-    let y = c.in-ok-entry.entry in
+    let y = c.in_ok-entry.entry in
     let d = declaring c.args.role c.args.name c.args.args.now c.args.sort in
     let l = length_symbols g in
-    let m = made (declaration y) d (length c.args.args.now) c.in-ok-entry.ensures in
+    let m = made (declaration y) d (length c.args.args.now) c.in_ok-entry.ensures in
     let w : g.symbol_count < length g.symbols = omega arith in
     let e = symbol_added d (view g) (omega arith) m.0 in
     let after : List Declaration → Signature = λ ds. record { sorts = (view g).sorts; symbols = ds } in
