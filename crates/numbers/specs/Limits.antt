@@ -1,5 +1,5 @@
 -- Limits on a meaning below: the cells from a lower to an upper one, in the order below. Assumes nothing.
-use Rattle.std.specs.Prelude.{ℕ, Bool, cond, ◌&&◌, ◌==◌}
+use Rattle.std.specs.Prelude.{ℕ, Bool, cond, ◌&&◌, nat_eq}
 use Rattle.numbers.specs.Meaning.{Meaning}
 
 -- A lower cell unlawful below stands as the rest cell below.
@@ -38,7 +38,7 @@ are_ends m l u = m.lawful l && m.lawful u && m.atmost l u
 
 -- one cell alone
 abbrev pub only : ℕ → Meaning
-only l = record { lawful = λ c. (c == l); plus = λ a b. l; minus = λ a b. l; atmost = eqb; rest = l }
+only l = record { lawful = λ c. nat_eq c l; plus = λ a b. l; minus = λ a b. l; atmost = nat_eq; rest = l }
 
 -- What two stored cells mean. Those that limits are made with are ends; two that are none, which no call stores, leave the lower cell alone.
 abbrev pub stored : Meaning → ℕ → ℕ → Meaning

@@ -8,6 +8,6 @@ pulses = record {
   lawful = λ a. nat_le a 999999;
   plus = λ a b. min (a + b) 999999;
   minus = λ a b. a - b;
-  atmost = leb;
+  atmost = nat_le;
   rest = 0;
 }

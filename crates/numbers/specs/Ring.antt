@@ -8,6 +8,6 @@ ring = record {
   lawful = λ a. nat_le a 9999;
   plus = λ a b. (a + b) % 10000;
   minus = λ a b. (a + (10000 - b)) % 10000;
-  atmost = leb;
+  atmost = nat_le;
   rest = 0;
 }

@@ -5,8 +5,8 @@ use Rattle.drafts.proofs.Firsts.{inner_rest, rest_within}
 use Rattle.drafts.specs.Rules.{is_function}
 use Rattle.drafts.proofs.shape.inner_function.Goals as goal
 
-pub overflow-add-result : goal.overflow-add-result
-overflow-add-result c =
+pub overflow_add-result : goal.overflow_add-result
+overflow_add-result c =
     let some : 0 < length c.args.word.now = search rules in
     let long : length c.args.word.now < 18446744073709551616 = search rules in
     let h = rest_within (is_function (view c.args.signature.now)) c.args.word.now c.in-Some.at some c.in-Some.ensures in

@@ -15,13 +15,13 @@ loop-i-init c =
     let l = ap length e in
     (later_none (left_sorts S (pending c.one-due.result) none_known w) ∙ ap (λ (ks : List ℕ). left_sorts S ks none_known w) e, omega arith)
 
-pub returns-in-default : goal.returns-in-default
-returns-in-default c =
-    sym (sorts_out (view c.args.signature.now) c.args.left.now (pending c.loop-i.due) c.loop-i.i c.loop-i.known (taken_none _ _ c.in-default.ensures) c.loop-i-test.true) ∙ c.loop-i.invariant.0
+pub returns-in_default : goal.returns-in_default
+returns-in_default c =
+    sym (sorts_out (view c.args.signature.now) c.args.left.now (pending c.loop-i.due) c.loop-i.i c.loop-i.known (taken_none _ _ c.in_default.ensures) c.loop-i-test.true) ∙ c.loop-i.invariant.0
 
-pub returns-then-not-takes-sort : goal.returns-then-not-takes-sort
-returns-then-not-takes-sort c =
-    sym (sorts_wrong (view c.args.signature.now) c.args.left.now (pending c.loop-i.due) _ c.loop-i.i c.in-Some.next c.loop-i.known (taken_some _ _ _ c.in-Some.ensures) c.loop-i-test.true (sym c.if-not-takes-sort.ensures))
+pub returns-then-not-takes_sort : goal.returns-then-not-takes_sort
+returns-then-not-takes_sort c =
+    sym (sorts_wrong (view c.args.signature.now) c.args.left.now (pending c.loop-i.due) _ c.loop-i.i c.in-Some.next c.loop-i.known (taken_some _ _ _ c.in-Some.ensures) c.loop-i-test.true (sym c.if-not-takes_sort.ensures))
     ∙ c.loop-i.invariant.0
 
 pub expect-requires : goal.expect-requires
@@ -40,7 +40,7 @@ loop-i-preserved c =
     let f = few_arguments c.args.signature.now (get_or w i 0) ks in (
       ap (λ (ls : List ℕ). later_by (i + 1) (left_sorts S ls c.note.new.known (drop (i + 1) w))) c.expect.ensures
           ∙ ap (λ (vs : List (Option ℕ)). later_by (i + 1) (left_sorts S (due_after (args_of S (get_or w i 0)) ks) vs (drop (i + 1) w))) c.note.ensures
-          ∙ sym (sorts_more S w (pending c.loop-i.due) ks i c.in-Some.next c.loop-i.known (taken_some _ _ _ c.in-Some.ensures) c.loop-i-test.true (sym c.if-not-takes-sort.ensures))
+          ∙ sym (sorts_more S w (pending c.loop-i.due) ks i c.in-Some.next c.loop-i.known (taken_some _ _ _ c.in-Some.ensures) c.loop-i-test.true (sym c.if-not-takes_sort.ensures))
           ∙ c.loop-i.invariant.0,
       omega (arith, c.loop-i.invariant.1),
     )

@@ -10,7 +10,7 @@ returns c =
     let g = c.args.signature.now in
     let f = g.symbols_fit in
     let l = length_symbols g in
-    c.unwrap-or.ensures
+    c.unwrap_or.ensures
     ∙ ap (λ (o : Option ℕ). unwrap_or o 0) c.arity.ensures
     ∙ ap (λ (n : ℕ). unwrap_or (arity (view g) n) 0) c.number.ensures
     ∙ arity_symbol (view g) c.args.symbol (omega (arith, c.ranges.symbol)) (omega arith)

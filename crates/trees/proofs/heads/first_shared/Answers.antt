@@ -16,7 +16,7 @@ returns-in-Some c =
 pub loop-i-preserved : goal.loop-i-preserved
 loop-i-preserved c =
     shared_later (open_of c.args.positions.now) c.args.remain.now (book-of (seen c.args.draft.now)).rules c.loop-i.i c.path-path.result (omega (arith, c.loop-i-test.true, c.len-i-end.ensures)) c.path-path.ensures
-    c.loop-i.invariant c.in-default.ensures
+    c.loop-i.invariant c.in_default.ensures
 
 pub returns : goal.returns
 returns c = shared_nowhere (open_of c.args.positions.now) c.args.remain.now (book-of (seen c.args.draft.now)).rules c.loop-i.i (omega (arith, c.loop-i-test.false, c.len-i-end.ensures)) c.loop-i.invariant

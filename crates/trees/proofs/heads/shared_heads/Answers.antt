@@ -8,7 +8,7 @@ use Rattle.trees.proofs.LeftSides.{rule_count_is}
 use Rattle.trees.proofs.LeftSides.{draft_cells}
 use Rattle.trees.proofs.Shares.{getD_replicate_same, SharedTo, shared_none_yet, shared_skip, shared_more, shared_stop, shared_all}
 use Rattle.trees.proofs.heads.shared_heads.Goals as goal
-use Rattle.trees.proofs.heads.shared_heads.Goals.{then-remain-i+in-ok-symbol-at, else-remain-i}
+use Rattle.trees.proofs.heads.shared_heads.Goals.{then-remain-i+in_ok-symbol_at, else-remain-i}
 
 pub loop-i-init : goal.loop-i-init
 loop-i-init c =
@@ -16,8 +16,8 @@ loop-i-init c =
     let long : length c.args.remain.now ≡ 96 = search rules in
     shared_none_yet (steps_of c.args.path.now) c.args.remain.now (book-of (seen d)).rules (draft_cells d (steps_of c.args.path.now)) (replicate 96 None) (sym long) (λ k. getD_replicate_same 96 k)
 
-pub returns-in-err-symbol-at : goal.returns-in-err-symbol-at
-returns-in-err-symbol-at c =
+pub returns-in_err-symbol_at : goal.returns-in_err-symbol_at
+returns-in_err-symbol_at c =
     let d = c.args.draft.now in
     let p = steps_of c.args.path.now in
     let m = c.args.remain.now in
@@ -26,9 +26,9 @@ returns-in-err-symbol-at c =
     let few = (sound_rules d).few-rules in
     let n = rule_count_is d in
     let long : length m ≡ 96 = search rules in
-    let l : i < length m = omega (arith, c.loop-i-test.true, c.rule-count-i-end.ensures.value) in
-    let k : i < length R = omega (arith, c.loop-i-test.true, c.rule-count-i-end.ensures.value) in
-    let no = shared_stop p m R (draft_cells d p) i c.loop-i.heads true false c.loop-i.invariant l k (sym c.if-remain-i.true) refl c.in-err-symbol-at.ensures in
+    let l : i < length m = omega (arith, c.loop-i-test.true, c.rule_count-i-end.ensures.value) in
+    let k : i < length R = omega (arith, c.loop-i-test.true, c.rule_count-i-end.ensures.value) in
+    let no = shared_stop p m R (draft_cells d p) i c.loop-i.heads true false c.loop-i.invariant l k (sym c.if-remain-i.true) refl c.in_err-symbol_at.ensures in
     c.from-residual.ensures ∙ sym (ap (λ (b : Bool). cond b (Some (heads_at p m R)) None) no)
 
 pub loop-i-preserved : goal.loop-i-preserved
@@ -41,10 +41,10 @@ loop-i-preserved c =
     let few = (sound_rules d).few-rules in
     let n = rule_count_is d in
     let long : length m ≡ 96 = search rules in
-    let l : i < length m = omega (arith, c.loop-i-test.true, c.rule-count-i-end.ensures.value) in
-    let k : i < length R = omega (arith, c.loop-i-test.true, c.rule-count-i-end.ensures.value) in
+    let l : i < length m = omega (arith, c.loop-i-test.true, c.rule_count-i-end.ensures.value) in
+    let k : i < length R = omega (arith, c.loop-i-test.true, c.rule_count-i-end.ensures.value) in
     elim c.if-remain-i.branch [
-      | then-remain-i+in-ok-symbol-at w ↦ subst (SharedTo p m R (draft_cells d p) (i + 1)) (sym w.heads-is) (shared_more p m R (draft_cells d p) i c.loop-i.heads true false c.loop-i.invariant l k (sym w.if-remain-i.true) _ refl w.in-ok-symbol-at.ensures)
+      | then-remain-i+in_ok-symbol_at w ↦ subst (SharedTo p m R (draft_cells d p) (i + 1)) (sym w.heads-is) (shared_more p m R (draft_cells d p) i c.loop-i.heads true false c.loop-i.invariant l k (sym w.if-remain-i.true) _ refl w.in_ok-symbol_at.ensures)
       | else-remain-i w ↦ subst (SharedTo p m R (draft_cells d p) (i + 1)) (sym w.heads-is) (shared_skip p m R (draft_cells d p) i c.loop-i.heads false false c.loop-i.invariant l k (sym w.if-remain-i.false) refl)
     ]
 
@@ -52,4 +52,4 @@ pub returns : goal.returns
 returns c =
     let d = c.args.draft.now in
     let n = rule_count_is d in
-    shared_all (steps_of c.args.path.now) c.args.remain.now (book-of (seen d)).rules (draft_cells d (steps_of c.args.path.now)) c.loop-i.i c.loop-i.heads (omega (arith, c.loop-i-test.false, c.rule-count-i-end.ensures.value)) c.loop-i.invariant
+    shared_all (steps_of c.args.path.now) c.args.remain.now (book-of (seen d)).rules (draft_cells d (steps_of c.args.path.now)) c.loop-i.i c.loop-i.heads (omega (arith, c.loop-i-test.false, c.rule_count-i-end.ensures.value)) c.loop-i.invariant

@@ -2,11 +2,11 @@ use Rattle.std.proofs.Common.{◌<◌, length, Some, None, ◌∙◌, arith, rul
 use Rattle.trees.proofs.Chosen.{starts_at, starts_first, starts_none}
 use Rattle.trees.proofs.masks.is_rule_of.Goals as goal
 
-pub returns-in-default : goal.returns-in-default
-returns-in-default c = starts_at c.args.draft.now c.args.rule c.args.function None c.in-default.ensures
+pub returns-in_default : goal.returns-in_default
+returns-in_default c = starts_at c.args.draft.now c.args.rule c.args.function None c.in_default.ensures
 
-pub returns-in-default-left : goal.returns-in-default-left
-returns-in-default-left c =
+pub returns-in_default-left : goal.returns-in_default-left
+returns-in_default-left c =
     let w = c.in-Some.left.now in
     let k : length w < 1 = search rules in
     starts_none c.args.function w (omega arith) ∙ starts_at c.args.draft.now c.args.rule c.args.function (Some w) c.in-Some.ensures

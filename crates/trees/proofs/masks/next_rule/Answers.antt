@@ -14,7 +14,7 @@ returns-then-remain-i c =
     let i = c.loop-i.i in
     let n = rule_count_is a in
     let l = (sound_rules a).few-rules in
-    let t = c.rule-count-i-end.ensures.value in
+    let t = c.rule_count-i-end.ensures.value in
     let r = nth_there R i (omega arith) in
     (r.0, r.1, c.loop-i.invariant ∙ chosen_more i c.args.remain.now R true false r.0 (omega arith) r.1 (sym c.if-remain-i.true))
 
@@ -25,7 +25,7 @@ loop-i-preserved c =
     let i = c.loop-i.i in
     let n = rule_count_is a in
     let l = (sound_rules a).few-rules in
-    let t = c.rule-count-i-end.ensures.value in
+    let t = c.rule_count-i-end.ensures.value in
     let r = nth_there R i (omega arith) in
     c.loop-i.invariant ∙ chosen_more i c.args.remain.now R false false r.0 (omega arith) r.1 (sym c.if-remain-i.false)
 
@@ -33,5 +33,5 @@ pub returns : goal.returns
 returns c =
     let a = c.args.draft.now in
     let n = rule_count_is a in
-    let t = c.rule-count-i-end.ensures.value in
+    let t = c.rule_count-i-end.ensures.value in
     c.loop-i.invariant ∙ chosen_end c.loop-i.i c.args.remain.now (book-of (seen a)).rules (omega arith)

@@ -14,8 +14,8 @@ loop-i-preserved c =
     let v = c.loop-i.invariant in
     let m = c.loop-i.mask in
     let i = c.loop-i.i in
-    let b = c.is-rule-of.result in (
-      written_places (λ k. passes (λ q. eqb q.function c.args.function) (slice_get (book-of (seen c.args.draft.now)).rules k)) m i false b (omega (arith, v.1)) c.is-rule-of.ensures v.0,
+    let b = c.is_rule_of.result in (
+      written_places (λ k. passes (λ q. eqb q.function c.args.function) (slice_get (book-of (seen c.args.draft.now)).rules k)) m i false b (omega (arith, v.1)) c.is_rule_of.ensures v.0,
       length-set m i b ∙ v.1,
     )
 

@@ -6,13 +6,13 @@ use Rattle.trees.proofs.Places.{nth_below}
 use Rattle.trees.proofs.LeftSides.{rule_count_is}
 use Rattle.trees.proofs.masks.sole_open.Goals as goal
 
-pub overflow-add-rule : goal.overflow-add-rule
-overflow-add-rule c =
+pub overflow_add-rule : goal.overflow_add-rule
+overflow_add-rule c =
     let a = c.args.draft.now in
-    let b = nth_below (book-of (seen a)).rules c.in-ok-rule.rule c.in-ok-rule.ensures.1 in
+    let b = nth_below (book-of (seen a)).rules c.in_ok-rule.rule c.in_ok-rule.ensures.1 in
     let n = rule_count_is a in
     let l = (sound_rules a).few-rules in
     omega arith
 
-pub next-rule-requires-2 : goal.next-rule-requires-2
-next-rule-requires-2 c = let b = nth_below (book-of (seen c.args.draft.now)).rules c.in-ok-rule.rule c.in-ok-rule.ensures.1 in omega arith
+pub next_rule-requires-2 : goal.next_rule-requires-2
+next_rule-requires-2 c = let b = nth_below (book-of (seen c.args.draft.now)).rules c.in_ok-rule.rule c.in_ok-rule.ensures.1 in omega arith

@@ -7,5 +7,5 @@ use Rattle.trees.proofs.rows.letter_at.Goals as goal
 pub returns : goal.returns
 returns c =
     c.copied.ensures
-    ∙ letter_read (view c.args.signature.now) (steps_of c.args.path.now) c.steps.result.now c.args.word.now c.in-ok-found.found c.get.result
-    c.steps.ensures c.in-ok-found.ensures.value c.get.ensures.lookup
+    ∙ letter_read (view c.args.signature.now) (steps_of c.args.path.now) c.steps.result.now c.args.word.now c.in_ok-found.found c.get.result
+    c.steps.ensures c.in_ok-found.ensures.value c.get.ensures.lookup

@@ -13,21 +13,21 @@ from W at = take (length W - at) (drop at W)
 split : (W : List ℕ) (at : ℕ) → 0 < length (from W at) → drop at W ≡ get_or (from W at) 0 0 ∷ between 1 (length (from W at)) (from W at)
 split W at h = sym (take_rest W at) ∙ first_rest (from W at) 0 h
 
-pub returns-in-default : goal.returns-in-default
-returns-in-default t c =
+pub returns-in_default : goal.returns-in_default
+returns-in_default t c =
     let W = c.args.word.now in
     let at = c.loop-sort.at in
     let z : length W ≤ at = search (rules, length-take, length-drop) in
     record { within = c.loop-sort.invariant.0; value = sym (walked_out (view c.args.signature.now) (given c.args.variables.now) c.args.due.now W c.loop-sort.sort-index at c.loop-sort.invariant.1 c.loop-sort-test.true z) }
 
-pub returns-in-default-arguments : goal.returns-in-default-arguments
-returns-in-default-arguments t c =
+pub returns-in_default-arguments : goal.returns-in_default-arguments
+returns-in_default-arguments t c =
     let W = c.args.word.now in
     let at = c.loop-sort.at in
     let some : 0 < length (from W at) = search rules in
     record {
       within = search (rules, length-take, length-drop);
-      value = sym (walked_unknown (view c.args.signature.now) (given c.args.variables.now) c.args.due.now W c.loop-sort.sort-index at _ _ c.loop-sort.invariant.1 c.loop-sort-test.true (split W at some) (sym c.in-default-arguments.ensures));
+      value = sym (walked_unknown (view c.args.signature.now) (given c.args.variables.now) c.args.due.now W c.loop-sort.sort-index at _ _ c.loop-sort.invariant.1 c.loop-sort-test.true (split W at some) (sym c.in_default-arguments.ensures));
     }
 
 pub returns-then-not-suits : goal.returns-then-not-suits

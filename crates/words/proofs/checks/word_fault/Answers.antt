@@ -23,20 +23,20 @@ returns-in-Some c =
     let e : Some (Letter c.in-Some.at) ≡ word_fault S n w = search rules in
     record { value = e; exact = subst (NoFaultAt (ClosedWord S n w)) (sym e) (takes S n w) }
 
-pub returns-in-Some-not-whole : goal.returns-in-Some-not-whole
-returns-in-Some-not-whole c =
+pub returns-in-Some-not_whole : goal.returns-in-Some-not_whole
+returns-in-Some-not_whole c =
     let S = view c.args.signature.now in
     let n = c.args.most in
     let w = c.args.word.now in
-    let e : Some (Whole c.in-Some-not-whole.at) ≡ word_fault S n w = search rules in
+    let e : Some (Whole c.in-Some-not_whole.at) ≡ word_fault S n w = search rules in
     record { value = e; exact = subst (NoFaultAt (ClosedWord S n w)) (sym e) (takes S n w) }
 
-pub returns-in-Some-wrong-argument : goal.returns-in-Some-wrong-argument
-returns-in-Some-wrong-argument c =
+pub returns-in-Some-wrong_argument : goal.returns-in-Some-wrong_argument
+returns-in-Some-wrong_argument c =
     let S = view c.args.signature.now in
     let n = c.args.most in
     let w = c.args.word.now in
-    let e : Some (Sort c.in-Some-wrong-argument.at) ≡ word_fault S n w = search rules in
+    let e : Some (Sort c.in-Some-wrong_argument.at) ≡ word_fault S n w = search rules in
     record { value = e; exact = subst (NoFaultAt (ClosedWord S n w)) (sym e) (takes S n w) }
 
 pub returns-in-None : goal.returns-in-None

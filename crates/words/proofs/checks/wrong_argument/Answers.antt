@@ -18,7 +18,7 @@ answer S W ks r some a h =
     ∙ ap (wrong_argument S) (sym (first_rest W 0 some))
 
 pub returns-in-Ok : goal.returns-in-Ok
-returns-in-Ok c = answer (view c.args.signature.now) c.args.word.now _ (Ok c.in-Ok.field-0) (search rules) c.in-ok-arguments.ensures c.in-Ok.ensures.value
+returns-in-Ok c = answer (view c.args.signature.now) c.args.word.now _ (Ok c.in-Ok.field-0) (search rules) c.in_ok-arguments.ensures c.in-Ok.ensures.value
 
 pub returns-in-Err : goal.returns-in-Err
-returns-in-Err c = answer (view c.args.signature.now) c.args.word.now _ (Err c.in-Err.at) (search rules) c.in-ok-arguments.ensures c.in-Err.ensures.value
+returns-in-Err c = answer (view c.args.signature.now) c.args.word.now _ (Err c.in-Err.at) (search rules) c.in_ok-arguments.ensures c.in-Err.ensures.value

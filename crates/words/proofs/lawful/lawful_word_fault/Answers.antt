@@ -15,13 +15,13 @@ returns-in-Some g c =
     let e : Some c.in-Some.fault ≡ lawful_fault S l n w = search rules in
     record { value = e; exact = subst (NoFaultAt (LawfulClosedWord S l n w)) (sym e) (takes_lawful S l n w) }
 
-pub returns-in-Some-unlawful-cell : goal.returns-in-Some-unlawful-cell
-returns-in-Some-unlawful-cell g c =
+pub returns-in-Some-unlawful_cell : goal.returns-in-Some-unlawful_cell
+returns-in-Some-unlawful_cell g c =
     let l = (g.K.NumberKind.meaning c.args.kind.now).lawful in
     let S = view c.args.signature.now in
     let n = c.args.most in
     let w = c.args.word.now in
-    let e : Some (Cell c.in-Some-unlawful-cell.at) ≡ lawful_fault S l n w = search rules in
+    let e : Some (Cell c.in-Some-unlawful_cell.at) ≡ lawful_fault S l n w = search rules in
     record { value = e; exact = subst (NoFaultAt (LawfulClosedWord S l n w)) (sym e) (takes_lawful S l n w) }
 
 pub returns-in-None : goal.returns-in-None

@@ -15,21 +15,21 @@ use Rattle.words.proofs.parts.+find_end.Goals as goal
 whole : (S : Signature) (W : List ℕ) (k : ℕ) (o : Option ℕ) → 0 < length W → Some k ≡ arity S (get_or W 0 0) → end_of S k (between 1 (length W) W) ≡ o → part_end S W ≡ more o
 whole S W k o some is h = ap (part_end S) (first_rest W 0 some) ∙ part_end_letter S (get_or W 0 0) k (between 1 (length W) W) (sym is) ∙ ap more h
 
-pub returns-in-default : goal.returns-in-default
-returns-in-default t c =
+pub returns-in_default : goal.returns-in_default
+returns-in_default t c =
     let S = view c.args.signature.now in
     let W = c.args.word.now in
     let z : length W ≡ 0 = search rules in
     let e = sym (ap (part_end S) (nil_from_length W z)) in
     record { within = tt; value = e }
 
-pub returns-in-err-end : goal.returns-in-err-end
-returns-in-err-end t c =
+pub returns-in_err-end : goal.returns-in_err-end
+returns-in_err-end t c =
     let S = view c.args.signature.now in
     let W = c.args.word.now in
     let some : 0 < length W = search rules in
     let r = c.from-residual.result in
-    let e = c.from-residual.ensures ∙ sym (ap (part_end S) (first_rest W 0 some) ∙ part_end_none S (get_or W 0 0) (between 1 (length W) W) (sym c.in-err-end.ensures)) in
+    let e = c.from-residual.ensures ∙ sym (ap (part_end S) (first_rest W 0 some) ∙ part_end_none S (get_or W 0 0) (between 1 (length W) W) (sym c.in_err-end.ensures)) in
     record { within = within_of S W r e; value = e }
 
 pub loop-init : goal.loop-init
@@ -37,21 +37,21 @@ loop-init t c =
     let S = view c.args.signature.now in
     let W = c.args.word.now in
     let R = between 1 (length W) W in
-    let k = c.in-ok-end.end in
+    let k = c.in_ok-end.end in
     let z : k - 0 ≡ k = omega arith in
     (omega arith, sym (ahead_zero (end_of S (k - 0) R) ∙ ap (λ j. end_of S j R) z))
 
-pub returns-in-err-at : goal.returns-in-err-at
-returns-in-err-at t c =
+pub returns-in_err-at : goal.returns-in_err-at
+returns-in_err-at t c =
     let S = view c.args.signature.now in
     let W = c.args.word.now in
     let R = between 1 (length W) W in
-    let k = c.in-ok-end.end in
+    let k = c.in_ok-end.end in
     let some : 0 < length W = search rules in
-    let h = c.in-err-at.ensures.value ∙ ap (part_end S) (take_rest R c.loop.at) in
+    let h = c.in_err-at.ensures.value ∙ ap (part_end S) (take_rest R c.loop.at) in
     let l : 0 < k - c.loop.counter = omega (arith, c.loop-test.true) in
-    let r = c.from-residual-in-err-at.result in
-    let e = c.from-residual-in-err-at.ensures ∙ sym (whole S W k None some c.in-ok-end.ensures (c.loop.invariant.1 ∙ stopped S (k - c.loop.counter) c.loop.at R l h)) in
+    let r = c.from-residual-in_err-at.result in
+    let e = c.from-residual-in_err-at.ensures ∙ sym (whole S W k None some c.in_ok-end.ensures (c.loop.invariant.1 ∙ stopped S (k - c.loop.counter) c.loop.at R l h)) in
     record { within = within_of S W r e; value = e }
 
 pub loop-preserved : goal.loop-preserved
@@ -59,13 +59,13 @@ loop-preserved t c =
     let S = view c.args.signature.now in
     let W = c.args.word.now in
     let R = between 1 (length W) W in
-    let k = c.in-ok-end.end in
+    let k = c.in_ok-end.end in
     let at = c.loop.at in
-    let n = c.in-ok-at.field-0 in
-    let h = c.in-ok-at.ensures.value ∙ ap (part_end S) (take_rest R at) in
+    let n = c.in_ok-at.field-0 in
+    let h = c.in_ok-at.ensures.value ∙ ap (part_end S) (take_rest R at) in
     let l : 0 < k - c.loop.counter = omega (arith, c.loop-test.true) in
     let q : k - c.loop.counter - 1 ≡ k - (c.loop.counter + 1) = omega arith in
-    let w = rw take_rest at c.in-ok-at.ensures.within in
+    let w = rw take_rest at c.in_ok-at.ensures.within in
     (omega (arith, simp length-drop at w, c.loop.invariant.0), c.loop.invariant.1 ∙ passed S (k - c.loop.counter) at n R l h ∙ ap (λ j. ahead (at + n) (end_of S j (drop (at + n) R))) q)
 
 pub returns : goal.returns
@@ -73,9 +73,9 @@ returns t c =
     let S = view c.args.signature.now in
     let W = c.args.word.now in
     let R = between 1 (length W) W in
-    let k = c.in-ok-end.end in
+    let k = c.in_ok-end.end in
     let at = c.loop.at in
     let some : 0 < length W = search rules in
     let l : k - c.loop.counter ≡ 0 = omega (arith, c.loop-test.false) in
-    let e = sym (whole S W k (Some at) some c.in-ok-end.ensures (c.loop.invariant.1 ∙ arrived S (k - c.loop.counter) at R l)) in
+    let e = sym (whole S W k (Some at) some c.in_ok-end.ensures (c.loop.invariant.1 ∙ arrived S (k - c.loop.counter) at R l)) in
     record { within = within_of S W (Some (at + 1)) e; value = e }

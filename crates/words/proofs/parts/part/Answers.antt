@@ -6,22 +6,22 @@ use Rattle.terms.specs.Views.{view}
 use Rattle.words.proofs.Cuts.{cuts_part, part_from, no_part_from}
 use Rattle.words.proofs.parts.part.Goals as goal
 
-pub returns-in-err-start : goal.returns-in-err-start
-returns-in-err-start c =
+pub returns-in_err-start : goal.returns-in_err-start
+returns-in_err-start c =
     let S = view c.args.signature.now in
     let w = c.args.word.now in
     let p = c.args.path.now in
-    let e = c.from-residual.ensures ∙ sym (no_part_from S p w (sym c.in-err-start.ensures.value)) in
+    let e = c.from-residual.ensures ∙ sym (no_part_from S p w (sym c.in_err-start.ensures.value)) in
     record { value = e; cuts = subst (CutsPart S p w) (sym e) (cuts_part S p w) }
 
-pub returns-in-err-len : goal.returns-in-err-len
-returns-in-err-len c =
+pub returns-in_err-len : goal.returns-in_err-len
+returns-in_err-len c =
     let S = view c.args.signature.now in
     let w = c.args.word.now in
     let p = c.args.path.now in
-    let n = c.in-ok-start.start in
-    let h = c.in-err-len.ensures.value ∙ ap (part_end S) (take_rest w n) in
-    let e = c.from-residual-in-err-len.ensures ∙ sym (part_from S p w n None (sym c.in-ok-start.ensures.value) (sym h)) in
+    let n = c.in_ok-start.start in
+    let h = c.in_err-len.ensures.value ∙ ap (part_end S) (take_rest w n) in
+    let e = c.from-residual-in_err-len.ensures ∙ sym (part_from S p w n None (sym c.in_ok-start.ensures.value) (sym h)) in
     record { value = e; cuts = subst (CutsPart S p w) (sym e) (cuts_part S p w) }
 
 pub returns : goal.returns
@@ -29,8 +29,8 @@ returns c =
     let S = view c.args.signature.now in
     let w = c.args.word.now in
     let p = c.args.path.now in
-    let n = c.in-ok-start.start in
-    let m = c.in-ok-len.len in
-    let h = c.in-ok-len.ensures.value ∙ ap (part_end S) (take_rest w n) in
-    let e = sym (part_from S p w n (Some m) (sym c.in-ok-start.ensures.value) (sym h)) in
+    let n = c.in_ok-start.start in
+    let m = c.in_ok-len.len in
+    let h = c.in_ok-len.ensures.value ∙ ap (part_end S) (take_rest w n) in
+    let e = sym (part_from S p w n (Some m) (sym c.in_ok-start.ensures.value) (sym h)) in
     record { value = e; cuts = subst (CutsPart S p w) (sym e) (cuts_part S p w) }

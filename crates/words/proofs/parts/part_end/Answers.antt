@@ -7,6 +7,6 @@ pub returns : goal.returns
 returns c =
     let S = view c.args.signature.now in
     let w = c.args.word.now in
-    let r = c.find-end.result in
-    let e = c.find-end.ensures.value in
+    let r = c.find_end.result in
+    let e = c.find_end.ensures.value in
     record { value = e; found = found_of S w r e; front = front_of S w r e }

@@ -13,27 +13,27 @@ use Rattle.books.proofs.Exact.{exact_check, accepted_complete}
 use Rattle.books.proofs.Tested.{set_tested}
 use Rattle.books.proofs.book.Book.check.Goals as goal
 
-pub returns-in-err-trees : goal.returns-in-err-trees
-returns-in-err-trees c =
+pub returns-in_err-trees : goal.returns-in_err-trees
+returns-in_err-trees c =
     let d = c.args.draft.now in
     let a = c.args.self.now in
     let p = err_from_is_err_and c.from-residual.result c.from-residual.ensures.1 in
-    let e = c.in-err-trees.field-0.0 in
+    let e = c.in_err-trees.field-0.0 in
     let r = p.1 ∙ ap Err p.2 in
-    let f = c.in-err-trees.ensures.fault in
+    let f = c.in_err-trees.ensures.fault in
     let same = ap refusal r ∙ f in
     record {
       checks = record { answered = same; becomes = ap (λ (o : Option CheckFault). after_check o (seen d) (held a)) f; kept = λ x y. refl };
       exact = subst (ExactCheck (seen d)) (sym same) (exact_check d);
     }
 
-pub invariant-of-self : goal.invariant-of-self
-invariant-of-self c = let d = c.args.draft.now in let f = c.in-ok-trees.ensures in (set_tested d c.in-ok-trees.trees (accepted_complete d (sym f.fault)).0 f.rooted, tt)
+pub invariant_of-self : goal.invariant_of-self
+invariant_of-self c = let d = c.args.draft.now in let f = c.in_ok-trees.ensures in (set_tested d c.in_ok-trees.trees (accepted_complete d (sym f.fault)).0 f.rooted, tt)
 
 pub returns : goal.returns
 returns c =
     let d = c.args.draft.now in
-    let f = c.in-ok-trees.ensures.fault in
+    let f = c.in_ok-trees.ensures.fault in
     record {
       checks = record { answered = f; becomes = ap (λ (o : Option CheckFault). after_check o (seen d) (held c.args.self.now)) f; kept = λ x y. absurd (zero_one (cc)) };
       exact = subst (ExactCheck (seen d)) (sym f) (exact_check d);

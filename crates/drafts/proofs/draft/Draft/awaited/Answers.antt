@@ -16,14 +16,14 @@ bounds-self-i c =
     let g = c.args.self.now.signature in
     let l = length_symbols g in
     let f = g.symbols_fit in
-    omega (arith, c.loop-i-test.true, c.symbol-count-count.ensures)
+    omega (arith, c.loop-i-test.true, c.symbol_count-count.ensures)
 
-pub overflow-cast-result : goal.overflow-cast-result
-overflow-cast-result c =
+pub overflow_cast-result : goal.overflow_cast-result
+overflow_cast-result c =
     let g = c.args.self.now.signature in
     let l = length_symbols g in
     let f = g.symbols_fit in
-    omega (arith, c.loop-i-test.true, c.symbol-count-count.ensures)
+    omega (arith, c.loop-i-test.true, c.symbol_count-count.ensures)
 
 pub returns-then-before-promised : goal.returns-then-before-promised
 returns-then-before-promised c =
@@ -34,8 +34,8 @@ returns-then-before-promised c =
     let k = length_symbols a.signature in
     let f = a.signature.symbols_fit in
     let l = length-take-le (length (seen a).signature.symbols) a.promised (omega arith) in
-    let at = get_or-take (length (seen a).signature.symbols) a.promised i 0 (omega (arith, c.loop-i-test.true, c.symbol-count-count.ensures)) in
-    sym (turn_here ps i c.loop-i.before (omega (arith, c.loop-i-test.true, c.symbol-count-count.ensures)) (omega (arith, c.if-before-promised.true))) ∙ c.loop-i.invariant
+    let at = get_or-take (length (seen a).signature.symbols) a.promised i 0 (omega (arith, c.loop-i-test.true, c.symbol_count-count.ensures)) in
+    sym (turn_here ps i c.loop-i.before (omega (arith, c.loop-i-test.true, c.symbol_count-count.ensures)) (omega (arith, c.if-before-promised.true))) ∙ c.loop-i.invariant
 
 pub loop-i-preserved : goal.loop-i-preserved
 loop-i-preserved c =
@@ -46,9 +46,9 @@ loop-i-preserved c =
     let k = length_symbols a.signature in
     let f = a.signature.symbols_fit in
     let l = length-take-le (length (seen a).signature.symbols) a.promised (omega arith) in
-    let at = get_or-take (length (seen a).signature.symbols) a.promised i 0 (omega (arith, c.loop-i-test.true, c.symbol-count-count.ensures)) in
+    let at = get_or-take (length (seen a).signature.symbols) a.promised i 0 (omega (arith, c.loop-i-test.true, c.symbol_count-count.ensures)) in
     ap (λ p. slice_get (in_turn (i + 1) (drop (i + 1) ps)) (c.loop-i.before - p)) (sym at)
-    ∙ sym (turn_more ps i c.loop-i.before (omega (arith, c.loop-i-test.true, c.symbol-count-count.ensures)) (omega (arith, c.if-before-promised.false)))
+    ∙ sym (turn_more ps i c.loop-i.before (omega (arith, c.loop-i-test.true, c.symbol_count-count.ensures)) (omega (arith, c.if-before-promised.false)))
     ∙ c.loop-i.invariant
 
 pub returns : goal.returns
@@ -58,4 +58,4 @@ returns c =
     let k = length_symbols a.signature in
     let f = a.signature.symbols_fit in
     let l = length-take-le (length (seen a).signature.symbols) a.promised (omega arith) in
-    sym (turn_all (seen a).promised c.loop-i.i c.loop-i.before (omega (arith, c.loop-i-test.false, c.symbol-count-count.ensures))) ∙ c.loop-i.invariant
+    sym (turn_all (seen a).promised c.loop-i.i c.loop-i.before (omega (arith, c.loop-i-test.false, c.symbol_count-count.ensures))) ∙ c.loop-i.invariant

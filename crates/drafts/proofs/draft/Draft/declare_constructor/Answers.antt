@@ -8,60 +8,60 @@ use Rattle.drafts.proofs.Kept.{new_constructor}
 use Rattle.drafts.proofs.Declared.{small_sorts, add_new_constructor}
 use Rattle.drafts.proofs.draft.Draft.declare_constructor.Goals as goal
 
-pub returns-in-err-new : goal.returns-in-err-new
-returns-in-err-new c =
+pub returns-in_err-new : goal.returns-in_err-new
+returns-in_err-new c =
     let a = c.args.self.now in
     let o = constructor_fault (seen a) c.args.name.now c.args.args.now c.args.sort in
     let r = err_from_is_err_and c.from-residual.result c.from-residual.ensures.1 in
-    not_done a o _ (length (seen a).signature.symbols) _ _ (refused o c.args.name.now _ c.in-err-new.ensures) (r.1 ∙ ap Err r.2)
+    not_done a o _ (length (seen a).signature.symbols) _ _ (refused o c.args.name.now _ c.in_err-new.ensures) (r.1 ∙ ap Err r.2)
 
 pub narrowed-sorts-requires : goal.narrowed-sorts-requires
 narrowed-sorts-requires c =
     let a = c.args.self.now in
     let o = constructor_fault (seen a) c.args.name.now c.args.args.now c.args.sort in
-    let m = new_constructor (seen a) c.args.name.now c.args.args.now c.args.sort (passed o c.args.name.now _ c.in-ok-new.ensures).0 in
+    let m = new_constructor (seen a) c.args.name.now c.args.args.now c.args.sort (passed o c.args.name.now _ c.in_ok-new.ensures).0 in
     record { few = m.sorts.four; small = (small_sorts a c.args.args.now c.args.sort m.sorts).1 }
 
-pub slice-bounds-add-constructor-end : goal.slice-bounds-add-constructor-end
-slice-bounds-add-constructor-end c =
+pub slice_bounds-add_constructor-end : goal.slice_bounds-add_constructor-end
+slice_bounds-add_constructor-end c =
     let a = c.args.self.now in
     let o = constructor_fault (seen a) c.args.name.now c.args.args.now c.args.sort in
-    let m = new_constructor (seen a) c.args.name.now c.args.args.now c.args.sort (passed o c.args.name.now _ c.in-ok-new.ensures).0 in
+    let m = new_constructor (seen a) c.args.name.now c.args.args.now c.args.sort (passed o c.args.name.now _ c.in_ok-new.ensures).0 in
     let few : length c.args.args.now ≤ 4 = m.sorts.four in
     search rules
 
-pub overflow-cast-sort : goal.overflow-cast-sort
-overflow-cast-sort c =
+pub overflow_cast-sort : goal.overflow_cast-sort
+overflow_cast-sort c =
     let a = c.args.self.now in
     let o = constructor_fault (seen a) c.args.name.now c.args.args.now c.args.sort in
-    let m = new_constructor (seen a) c.args.name.now c.args.args.now c.args.sort (passed o c.args.name.now _ c.in-ok-new.ensures).0 in
+    let m = new_constructor (seen a) c.args.name.now c.args.args.now c.args.sort (passed o c.args.name.now _ c.in_ok-new.ensures).0 in
     let small = (small_sorts a c.args.args.now c.args.sort m.sorts).0 in
     omega arith
 
 pub bounds-self-number : goal.bounds-self-number
 bounds-self-number c =
     let a = c.args.self.now in
-    let q = add_new_constructor a c.args.name.now _ c.args.args.now c.narrowed-sorts.result c.args.sort c.add-constructor.result c.add-constructor.new.self c.in-ok-new.ensures c.narrowed-sorts.ensures (search rules) c.add-constructor.ensures in
+    let q = add_new_constructor a c.args.name.now _ c.args.args.now c.narrowed-sorts.result c.args.sort c.add_constructor.result c.add_constructor.new.self c.in_ok-new.ensures c.narrowed-sorts.ensures (search rules) c.add_constructor.ensures in
     let e = q.added.numbered c.in-Some.number c.in-Some.is in
     let room = q.added.room in
     omega arith
 
-pub invariant-of-self : goal.invariant-of-self
-invariant-of-self c =
+pub invariant_of-self : goal.invariant_of-self
+invariant_of-self c =
     let a = c.args.self.now in
-    let q = add_new_constructor a c.args.name.now _ c.args.args.now c.narrowed-sorts.result c.args.sort c.add-constructor.result c.add-constructor.new.self c.in-ok-new.ensures c.narrowed-sorts.ensures (search rules) c.add-constructor.ensures in
+    let q = add_new_constructor a c.args.name.now _ c.args.args.now c.narrowed-sorts.result c.args.sort c.add_constructor.result c.add_constructor.new.self c.in_ok-new.ensures c.narrowed-sorts.ensures (search rules) c.add_constructor.ensures in
     (a.rules_long, (a.rules_fit, (a.letters_fit, (a.laid, (q.sound c.in-Some.number c.in-Some.is, tt)))))
 
-pub invariant-of-self-in-None : goal.invariant-of-self-in-None
-invariant-of-self-in-None c =
+pub invariant_of-self-in-None : goal.invariant_of-self-in-None
+invariant_of-self-in-None c =
     let a = c.args.self.now in
-    let q = add_new_constructor a c.args.name.now _ c.args.args.now c.narrowed-sorts.result c.args.sort c.add-constructor.result c.add-constructor.new.self c.in-ok-new.ensures c.narrowed-sorts.ensures (search rules) c.add-constructor.ensures in
+    let q = add_new_constructor a c.args.name.now _ c.args.args.now c.narrowed-sorts.result c.args.sort c.add_constructor.result c.add_constructor.new.self c.in_ok-new.ensures c.narrowed-sorts.ensures (search rules) c.add_constructor.ensures in
     absurd (q.added.never_full c.in-None.is)
 
 pub returns-in-Some : goal.returns-in-Some
 returns-in-Some c =
     let a = c.args.self.now in
-    let q = add_new_constructor a c.args.name.now _ c.args.args.now c.narrowed-sorts.result c.args.sort c.add-constructor.result c.add-constructor.new.self c.in-ok-new.ensures c.narrowed-sorts.ensures (search rules) c.add-constructor.ensures in
+    let q = add_new_constructor a c.args.name.now _ c.args.args.now c.narrowed-sorts.result c.args.sort c.add_constructor.result c.add_constructor.new.self c.in_ok-new.ensures c.narrowed-sorts.ensures (search rules) c.add_constructor.ensures in
     done a _ (constructor_fault (seen a) c.args.name.now c.args.args.now c.args.sort) (seen a)
     (with_symbol (seen a) (record { name = c.args.name.now; role = Constructor; args = c.args.args.now; sort = c.args.sort }) 0) (length (seen a).signature.symbols) c.in-Some.number
     q.fine (q.added.numbered c.in-Some.number c.in-Some.is) (q.added.after c.in-Some.number c.in-Some.is)
@@ -69,5 +69,5 @@ returns-in-Some c =
 pub returns-in-None : goal.returns-in-None
 returns-in-None c =
     let a = c.args.self.now in
-    let q = add_new_constructor a c.args.name.now _ c.args.args.now c.narrowed-sorts.result c.args.sort c.add-constructor.result c.add-constructor.new.self c.in-ok-new.ensures c.narrowed-sorts.ensures (search rules) c.add-constructor.ensures in
+    let q = add_new_constructor a c.args.name.now _ c.args.args.now c.narrowed-sorts.result c.args.sort c.add_constructor.result c.add_constructor.new.self c.in_ok-new.ensures c.narrowed-sorts.ensures (search rules) c.add_constructor.ensures in
     absurd (q.added.never_full c.in-None.is)

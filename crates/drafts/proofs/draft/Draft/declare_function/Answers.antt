@@ -8,68 +8,68 @@ use Rattle.drafts.proofs.Kept.{new_function}
 use Rattle.drafts.proofs.Declared.{small_sorts, add_new_function}
 use Rattle.drafts.proofs.draft.Draft.declare_function.Goals as goal
 
-pub returns-in-err-new : goal.returns-in-err-new
-returns-in-err-new c =
+pub returns-in_err-new : goal.returns-in_err-new
+returns-in_err-new c =
     let a = c.args.self.now in
     let o = function_fault (seen a) c.args.name.now c.args.args.now c.args.sort c.args.rules in
     let r = err_from_is_err_and c.from-residual.result c.from-residual.ensures.1 in
-    not_done a o _ (length (seen a).signature.symbols) _ _ (refused o c.args.name.now _ c.in-err-new.ensures) (r.1 ∙ ap Err r.2)
+    not_done a o _ (length (seen a).signature.symbols) _ _ (refused o c.args.name.now _ c.in_err-new.ensures) (r.1 ∙ ap Err r.2)
 
 pub narrowed-sorts-requires : goal.narrowed-sorts-requires
 narrowed-sorts-requires c =
     let a = c.args.self.now in
     let o = function_fault (seen a) c.args.name.now c.args.args.now c.args.sort c.args.rules in
-    let m = new_function (seen a) c.args.name.now c.args.args.now c.args.sort c.args.rules (passed o c.args.name.now _ c.in-ok-new.ensures).0 in
+    let m = new_function (seen a) c.args.name.now c.args.args.now c.args.sort c.args.rules (passed o c.args.name.now _ c.in_ok-new.ensures).0 in
     record { few = m.sorts.four; small = (small_sorts a c.args.args.now c.args.sort m.sorts).1 }
 
-pub slice-bounds-add-function-end : goal.slice-bounds-add-function-end
-slice-bounds-add-function-end c =
+pub slice_bounds-add_function-end : goal.slice_bounds-add_function-end
+slice_bounds-add_function-end c =
     let a = c.args.self.now in
     let o = function_fault (seen a) c.args.name.now c.args.args.now c.args.sort c.args.rules in
-    let m = new_function (seen a) c.args.name.now c.args.args.now c.args.sort c.args.rules (passed o c.args.name.now _ c.in-ok-new.ensures).0 in
+    let m = new_function (seen a) c.args.name.now c.args.args.now c.args.sort c.args.rules (passed o c.args.name.now _ c.in_ok-new.ensures).0 in
     let few : length c.args.args.now ≤ 4 = m.sorts.four in
     search rules
 
-pub overflow-cast-sort : goal.overflow-cast-sort
-overflow-cast-sort c =
+pub overflow_cast-sort : goal.overflow_cast-sort
+overflow_cast-sort c =
     let a = c.args.self.now in
     let o = function_fault (seen a) c.args.name.now c.args.args.now c.args.sort c.args.rules in
-    let m = new_function (seen a) c.args.name.now c.args.args.now c.args.sort c.args.rules (passed o c.args.name.now _ c.in-ok-new.ensures).0 in
+    let m = new_function (seen a) c.args.name.now c.args.args.now c.args.sort c.args.rules (passed o c.args.name.now _ c.in_ok-new.ensures).0 in
     let small = (small_sorts a c.args.args.now c.args.sort m.sorts).0 in
     omega arith
 
-pub overflow-cast-self : goal.overflow-cast-self
-overflow-cast-self c =
+pub overflow_cast-self : goal.overflow_cast-self
+overflow_cast-self c =
     let a = c.args.self.now in
     let o = function_fault (seen a) c.args.name.now c.args.args.now c.args.sort c.args.rules in
-    let m = new_function (seen a) c.args.name.now c.args.args.now c.args.sort c.args.rules (passed o c.args.name.now _ c.in-ok-new.ensures).0 in
+    let m = new_function (seen a) c.args.name.now c.args.args.now c.args.sort c.args.rules (passed o c.args.name.now _ c.in_ok-new.ensures).0 in
     let few = m.few in
     omega arith
 
 pub bounds-self-number : goal.bounds-self-number
 bounds-self-number c =
     let a = c.args.self.now in
-    let q = add_new_function a c.args.name.now _ c.args.args.now c.narrowed-sorts.result c.args.sort c.args.rules c.add-function.result c.add-function.new.self c.in-ok-new.ensures c.narrowed-sorts.ensures (search rules) c.add-function.ensures in
+    let q = add_new_function a c.args.name.now _ c.args.args.now c.narrowed-sorts.result c.args.sort c.args.rules c.add_function.result c.add_function.new.self c.in_ok-new.ensures c.narrowed-sorts.ensures (search rules) c.add_function.ensures in
     let e = q.added.numbered c.in-Some.number c.in-Some.is in
     let room = q.added.room in
     omega arith
 
-pub invariant-of-self : goal.invariant-of-self
-invariant-of-self c =
+pub invariant_of-self : goal.invariant_of-self
+invariant_of-self c =
     let a = c.args.self.now in
-    let q = add_new_function a c.args.name.now _ c.args.args.now c.narrowed-sorts.result c.args.sort c.args.rules c.add-function.result c.add-function.new.self c.in-ok-new.ensures c.narrowed-sorts.ensures (search rules) c.add-function.ensures in
+    let q = add_new_function a c.args.name.now _ c.args.args.now c.narrowed-sorts.result c.args.sort c.args.rules c.add_function.result c.add_function.new.self c.in_ok-new.ensures c.narrowed-sorts.ensures (search rules) c.add_function.ensures in
     (a.rules_long, (a.rules_fit, (a.letters_fit, (a.laid, (q.sound c.in-Some.number c.in-Some.is, tt)))))
 
-pub invariant-of-self-in-None : goal.invariant-of-self-in-None
-invariant-of-self-in-None c =
+pub invariant_of-self-in-None : goal.invariant_of-self-in-None
+invariant_of-self-in-None c =
     let a = c.args.self.now in
-    let q = add_new_function a c.args.name.now _ c.args.args.now c.narrowed-sorts.result c.args.sort c.args.rules c.add-function.result c.add-function.new.self c.in-ok-new.ensures c.narrowed-sorts.ensures (search rules) c.add-function.ensures in
+    let q = add_new_function a c.args.name.now _ c.args.args.now c.narrowed-sorts.result c.args.sort c.args.rules c.add_function.result c.add_function.new.self c.in_ok-new.ensures c.narrowed-sorts.ensures (search rules) c.add_function.ensures in
     absurd (q.added.never_full c.in-None.is)
 
 pub returns-in-Some : goal.returns-in-Some
 returns-in-Some c =
     let a = c.args.self.now in
-    let q = add_new_function a c.args.name.now _ c.args.args.now c.narrowed-sorts.result c.args.sort c.args.rules c.add-function.result c.add-function.new.self c.in-ok-new.ensures c.narrowed-sorts.ensures (search rules) c.add-function.ensures in
+    let q = add_new_function a c.args.name.now _ c.args.args.now c.narrowed-sorts.result c.args.sort c.args.rules c.add_function.result c.add_function.new.self c.in_ok-new.ensures c.narrowed-sorts.ensures (search rules) c.add_function.ensures in
     done a _ (function_fault (seen a) c.args.name.now c.args.args.now c.args.sort c.args.rules) (seen a)
     (with_symbol (seen a) (record { name = c.args.name.now; role = Function; args = c.args.args.now; sort = c.args.sort }) c.args.rules) (length (seen a).signature.symbols) c.in-Some.number
     q.fine (q.added.numbered c.in-Some.number c.in-Some.is) (q.added.after c.in-Some.number c.in-Some.is)
@@ -77,5 +77,5 @@ returns-in-Some c =
 pub returns-in-None : goal.returns-in-None
 returns-in-None c =
     let a = c.args.self.now in
-    let q = add_new_function a c.args.name.now _ c.args.args.now c.narrowed-sorts.result c.args.sort c.args.rules c.add-function.result c.add-function.new.self c.in-ok-new.ensures c.narrowed-sorts.ensures (search rules) c.add-function.ensures in
+    let q = add_new_function a c.args.name.now _ c.args.args.now c.narrowed-sorts.result c.args.sort c.args.rules c.add_function.result c.add_function.new.self c.in_ok-new.ensures c.narrowed-sorts.ensures (search rules) c.add_function.ensures in
     absurd (q.added.never_full c.in-None.is)

@@ -7,27 +7,27 @@ use Rattle.drafts.proofs.Verdicts.{done, not_done, refused}
 use Rattle.drafts.proofs.Declared.{add_new_sort}
 use Rattle.drafts.proofs.draft.Draft.declare_sort.Goals as goal
 
-pub returns-in-err-new : goal.returns-in-err-new
-returns-in-err-new c =
+pub returns-in_err-new : goal.returns-in_err-new
+returns-in_err-new c =
     let a = c.args.self.now in
     let n = c.args.name.now in
     let p = err_from_is_err_and c.from-residual.result c.from-residual.ensures.1 in
-    not_done a (sort_fault (seen a) n) (with_sort (seen a) n) (length (seen a).signature.sorts) _ _ (refused (sort_fault (seen a) n) n _ c.in-err-new.ensures) (p.1 ∙ ap Err p.2)
+    not_done a (sort_fault (seen a) n) (with_sort (seen a) n) (length (seen a).signature.sorts) _ _ (refused (sort_fault (seen a) n) n _ c.in_err-new.ensures) (p.1 ∙ ap Err p.2)
 
-pub invariant-of-self : goal.invariant-of-self
-invariant-of-self c =
+pub invariant_of-self : goal.invariant_of-self
+invariant_of-self c =
     let a = c.args.self.now in
-    (a.rules_long, (a.rules_fit, (a.letters_fit, (a.laid, ((add_new_sort a c.args.name.now _ _ _ c.in-ok-new.ensures c.add-sort.ensures).sound, tt)))))
+    (a.rules_long, (a.rules_fit, (a.letters_fit, (a.laid, ((add_new_sort a c.args.name.now _ _ _ c.in_ok-new.ensures c.add_sort.ensures).sound, tt)))))
 
 pub returns-in-Some : goal.returns-in-Some
 returns-in-Some c =
     let a = c.args.self.now in
     let n = c.args.name.now in
-    let s = add_new_sort a n _ _ _ c.in-ok-new.ensures c.add-sort.ensures in
+    let s = add_new_sort a n _ _ _ c.in_ok-new.ensures c.add_sort.ensures in
     done a _ (sort_fault (seen a) n) (seen a) (with_sort (seen a) n) (length (seen a).signature.sorts) c.in-Some.number s.fine (let e = s.number in let i = c.in-Some.is in cc) s.after
 
 pub returns-in-None : goal.returns-in-None
 returns-in-None c =
     let a = c.args.self.now in
-    let s = add_new_sort a c.args.name.now _ _ _ c.in-ok-new.ensures c.add-sort.ensures in
+    let s = add_new_sort a c.args.name.now _ _ _ c.in_ok-new.ensures c.add_sort.ensures in
     absurd (zero_one (let e = s.number in let i = c.in-None.is in cc))

@@ -10,18 +10,18 @@ found_is : (o : Option ℕ) → is_some o ≡ is_found o
 found_is None = refl
 found_is (Some i) = refl
 
-pub returns-then-is-some : goal.returns-then-is-some
-returns-then-is-some c =
+pub returns-then-is_some : goal.returns-then-is_some
+returns-then-is_some c =
     let S = view c.args.self.now.signature in
     let n = c.args.name.now in
-    let a : true ≡ is_found (find_name S.sorts n) = c.if-is-some.ensures ∙ ap is_some c.sort-named.ensures ∙ found_is (find_name S.sorts n) in
-    c.if-is-some.true ∙ ap (λ b. b || is_found (find_name (map (λ (d : Declaration). d.name) S.symbols) n)) a ∙ sym (found_append S.sorts (map (λ (d : Declaration). d.name) S.symbols) n)
+    let a : true ≡ is_found (find_name S.sorts n) = c.if-is_some.ensures ∙ ap is_some c.sort_named.ensures ∙ found_is (find_name S.sorts n) in
+    c.if-is_some.true ∙ ap (λ b. b || is_found (find_name (map (λ (d : Declaration). d.name) S.symbols) n)) a ∙ sym (found_append S.sorts (map (λ (d : Declaration). d.name) S.symbols) n)
 
-pub returns-else-is-some : goal.returns-else-is-some
-returns-else-is-some c =
+pub returns-else-is_some : goal.returns-else-is_some
+returns-else-is_some c =
     let S = view c.args.self.now.signature in
     let n = c.args.name.now in
     let ns : List (List ℕ) = map (λ (d : Declaration). d.name) S.symbols in
-    let a : false ≡ is_found (find_name S.sorts n) = c.if-is-some.ensures ∙ ap is_some c.sort-named.ensures ∙ found_is (find_name S.sorts n) in
-    let b : c.is-some-else-is-some.result ≡ is_found (find_name ns n) = c.is-some-else-is-some.ensures ∙ ap is_some c.symbol-named.ensures ∙ found_is (find_name ns n) in
+    let a : false ≡ is_found (find_name S.sorts n) = c.if-is_some.ensures ∙ ap is_some c.sort_named.ensures ∙ found_is (find_name S.sorts n) in
+    let b : c.is_some-else-is_some.result ≡ is_found (find_name ns n) = c.is_some-else-is_some.ensures ∙ ap is_some c.symbol_named.ensures ∙ found_is (find_name ns n) in
     b ∙ ap (λ t. t || is_found (find_name ns n)) a ∙ sym (found_append S.sorts ns n)

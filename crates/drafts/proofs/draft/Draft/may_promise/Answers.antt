@@ -5,10 +5,10 @@ use Rattle.drafts.specs.Stores.{seen}
 use Rattle.drafts.proofs.Kept.{parts_of}
 use Rattle.drafts.proofs.draft.Draft.may_promise.Goals as goal
 
-pub overflow-sub-result : goal.overflow-sub-result
-overflow-sub-result c =
+pub overflow_sub-result : goal.overflow_sub-result
+overflow_sub-result c =
     let D = seen c.args.self.now in
     let p = parts_of D.signature D.promised (and_parts (contents_sound D.signature D.promised) _ c.args.self.now.sound).0 in
     let few = p.few in
-    let e = c.promised-rules.ensures in
+    let e = c.promised_rules.ensures in
     omega arith

@@ -12,18 +12,18 @@ returns-then-self-gt0 c =
     let n = c.args.name.now in
     refuse (some_rule (seen c.args.self.now).rules) RuleStands _ n (rule_stands c.args.self.now c.if-self-gt0.true)
 
-pub returns-in-default : goal.returns-in-default
-returns-in-default c =
+pub returns-in_default : goal.returns-in_default
+returns-in_default c =
     let d = c.args.self.now in
     let n = c.args.name.now in
-    refuse (not (well_formed n)) MalformedName _ n (ap not (ill_formed n c.in-default.ensures))
+    refuse (not (well_formed n)) MalformedName _ n (ap not (ill_formed n c.in_default.ensures))
     ∙ pass (some_rule (seen d).rules) RuleStands _ n (no_rule_stands d (omega (arith, c.if-self-gt0.false)))
 
-pub returns-then-is-taken : goal.returns-then-is-taken
-returns-then-is-taken c =
+pub returns-then-is_taken : goal.returns-then-is_taken
+returns-then-is_taken c =
     let d = c.args.self.now in
     let n = c.args.name.now in
-    refuse (is_taken (seen d).signature n) NameTaken _ n (sym c.if-is-taken.ensures)
+    refuse (is_taken (seen d).signature n) NameTaken _ n (sym c.if-is_taken.ensures)
     ∙ pass (not (well_formed n)) MalformedName _ n (ap not (formed n _ c.in-Some.ensures).0)
     ∙ pass (some_rule (seen d).rules) RuleStands _ n (no_rule_stands d (omega (arith, c.if-self-gt0.false)))
 
@@ -33,6 +33,6 @@ returns c =
     let n = c.args.name.now in
     let f = formed n _ c.in-Some.ensures in
     ap Ok f.1
-    ∙ pass (is_taken (seen d).signature n) NameTaken None n (sym c.if-is-taken.ensures)
+    ∙ pass (is_taken (seen d).signature n) NameTaken None n (sym c.if-is_taken.ensures)
     ∙ pass (not (well_formed n)) MalformedName _ n (ap not f.0)
     ∙ pass (some_rule (seen d).rules) RuleStands _ n (no_rule_stands d (omega (arith, c.if-self-gt0.false)))

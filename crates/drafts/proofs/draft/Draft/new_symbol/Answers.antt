@@ -6,26 +6,26 @@ use Rattle.drafts.specs.Stores.{seen, named, verdict}
 use Rattle.drafts.proofs.Verdicts.{refused_first, passed_first, passed, again}
 use Rattle.drafts.proofs.draft.Draft.new_symbol.Goals as goal
 
-pub returns-in-err-new : goal.returns-in-err-new
-returns-in-err-new c =
+pub returns-in_err-new : goal.returns-in_err-new
+returns-in_err-new c =
     let D = seen c.args.self.now in
     let n = c.args.name.now in
     let p = err_from_is_err_and c.from-residual.result c.from-residual.ensures.1 in
-    ap named (p.1 ∙ ap Err p.2) ∙ refused_first (name_fault D n) (sorts_fault D c.args.args.now c.args.sort) n n _ c.in-err-new.ensures
+    ap named (p.1 ∙ ap Err p.2) ∙ refused_first (name_fault D n) (sorts_fault D c.args.args.now c.args.sort) n n _ c.in_err-new.ensures
 
-pub returns-in-err-check-sorts : goal.returns-in-err-check-sorts
-returns-in-err-check-sorts c =
+pub returns-in_err-check_sorts : goal.returns-in_err-check_sorts
+returns-in_err-check_sorts c =
     let D = seen c.args.self.now in
     let n = c.args.name.now in
     let o = sorts_fault D c.args.args.now c.args.sort in
-    let p = err_from_is_err_and c.from-residual-in-err-check-sorts.result c.from-residual-in-err-check-sorts.ensures.1 in
-    ap named (p.1 ∙ ap Err p.2) ∙ again o tt n _ c.in-err-check-sorts.ensures ∙ passed_first (name_fault D n) o n _ n c.in-ok-new.ensures
+    let p = err_from_is_err_and c.from-residual-in_err-check_sorts.result c.from-residual-in_err-check_sorts.ensures.1 in
+    ap named (p.1 ∙ ap Err p.2) ∙ again o tt n _ c.in_err-check_sorts.ensures ∙ passed_first (name_fault D n) o n _ n c.in_ok-new.ensures
 
 pub returns : goal.returns
 returns c =
     let D = seen c.args.self.now in
     let n = c.args.name.now in
     let o = sorts_fault D c.args.args.now c.args.sort in
-    ap Ok (passed (name_fault D n) n _ c.in-ok-new.ensures).1
-    ∙ ap (λ (q : Option ContentFault). verdict q n) (sym (passed o tt _ c.in-ok-check-sorts.ensures).0)
-    ∙ passed_first (name_fault D n) o n _ n c.in-ok-new.ensures
+    ap Ok (passed (name_fault D n) n _ c.in_ok-new.ensures).1
+    ∙ ap (λ (q : Option ContentFault). verdict q n) (sym (passed o tt _ c.in_ok-check_sorts.ensures).0)
+    ∙ passed_first (name_fault D n) o n _ n c.in_ok-new.ensures

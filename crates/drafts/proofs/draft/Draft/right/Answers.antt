@@ -7,8 +7,8 @@ use Rattle.drafts.proofs.draft.Draft.right.Goals as goal
 pub returns-then-rule-self : goal.returns-then-rule-self
 returns-then-rule-self c = sym (ap (mapped (λ (q : Sides). q.right)) (rule_out c.args.self.now c.args.rule c.if-rule-self.true))
 
-pub overflow-add-span : goal.overflow-add-span
-overflow-add-span c =
+pub overflow_add-span : goal.overflow_add-span
+overflow_add-span c =
     let h = span_within c.args.self.now c.args.rule (record { start = 0; left = 0; right = 0 }) c.if-rule-self.false in
     omega arith
 

@@ -9,33 +9,33 @@ use Rattle.drafts.proofs.Verdicts.{refused_first, passed_first, refuse, pass, pa
 use Rattle.drafts.proofs.Ruled.{turn_known, short_left, letters_counted}
 use Rattle.drafts.proofs.draft.Draft.rule_verdict.Goals as goal
 
-pub returns-in-err-word-faults : goal.returns-in-err-word-faults
-returns-in-err-word-faults c =
+pub returns-in_err-word_faults : goal.returns-in_err-word_faults
+returns-in_err-word_faults c =
     let D = seen c.args.self.now in
     let q = sides c.args.left.now c.args.right.now in
     let f = c.in-Some.function in
     let p = err_from_is_err_and c.from-residual.result c.from-residual.ensures.1 in
     p.1 ∙ ap Err p.2
-    ∙ refused_first (rule_fault D.signature f q) _ (tt {0}) (tt {0}) _ (refused_first (word_faults D.signature q) (shape_faults D.signature f q) (tt {0}) (tt {0}) _ c.in-err-word-faults.ensures)
+    ∙ refused_first (rule_fault D.signature f q) _ (tt {0}) (tt {0}) _ (refused_first (word_faults D.signature q) (shape_faults D.signature f q) (tt {0}) (tt {0}) _ c.in_err-word_faults.ensures)
     ∙ ap (λ (o : Option ℕ). verdict (fault_under D o q) tt) c.in-Some.ensures
 
-pub shape-faults-requires : goal.shape-faults-requires
-shape-faults-requires c =
+pub shape_faults-requires : goal.shape_faults-requires
+shape_faults-requires c =
     let a = c.args.self.now in
     let q = sides c.args.left.now c.args.right.now in
     record {
       few = (turn_known a c.in-Some.function (sym c.in-Some.ensures)).0;
-      short = short_left (seen a).signature q (passed (word_faults (seen a).signature q) (tt {0}) _ c.in-ok-word-faults.ensures).0;
+      short = short_left (seen a).signature q (passed (word_faults (seen a).signature q) (tt {0}) _ c.in_ok-word_faults.ensures).0;
     }
 
-pub returns-in-err-shape-faults : goal.returns-in-err-shape-faults
-returns-in-err-shape-faults c =
+pub returns-in_err-shape_faults : goal.returns-in_err-shape_faults
+returns-in_err-shape_faults c =
     let D = seen c.args.self.now in
     let q = sides c.args.left.now c.args.right.now in
     let f = c.in-Some.function in
-    let p = err_from_is_err_and c.from-residual-in-err-shape-faults.result c.from-residual-in-err-shape-faults.ensures.1 in
+    let p = err_from_is_err_and c.from-residual-in_err-shape_faults.result c.from-residual-in_err-shape_faults.ensures.1 in
     p.1 ∙ ap Err p.2
-    ∙ refused_first (rule_fault D.signature f q) _ (tt {0}) (tt {0}) _ (c.in-err-shape-faults.ensures ∙ passed_first (word_faults D.signature q) (shape_faults D.signature f q) (tt {0}) _ (tt {0}) c.in-ok-word-faults.ensures)
+    ∙ refused_first (rule_fault D.signature f q) _ (tt {0}) (tt {0}) _ (c.in_err-shape_faults.ensures ∙ passed_first (word_faults D.signature q) (shape_faults D.signature f q) (tt {0}) _ (tt {0}) c.in_ok-word_faults.ensures)
     ∙ ap (λ (o : Option ℕ). verdict (fault_under D o q) tt) c.in-Some.ensures
 
 pub returns-then-left-right : goal.returns-then-left-right
@@ -47,7 +47,7 @@ returns-then-left-right c =
     let long : length a.letters ≡ 1024 = search rules in
     let k = letters_counted a long in
     refuse (no_room D.rules q) NoRoom None (tt {0}) (lt-ltb most_letters (letters_in D.rules + (length q.left + length q.right)) (omega (arith, c.if-left-right.true)))
-    ∙ passed_first (rule_fault D.signature f q) _ (tt {0}) _ (tt {0}) (c.in-ok-shape-faults.ensures ∙ passed_first (word_faults D.signature q) (shape_faults D.signature f q) (tt {0}) _ (tt {0}) c.in-ok-word-faults.ensures)
+    ∙ passed_first (rule_fault D.signature f q) _ (tt {0}) _ (tt {0}) (c.in_ok-shape_faults.ensures ∙ passed_first (word_faults D.signature q) (shape_faults D.signature f q) (tt {0}) _ (tt {0}) c.in_ok-word_faults.ensures)
     ∙ ap (λ (o : Option ℕ). verdict (fault_under D o q) tt) c.in-Some.ensures
 
 pub returns : goal.returns
@@ -59,5 +59,5 @@ returns c =
     let long : length a.letters ≡ 1024 = search rules in
     let k = letters_counted a long in
     pass (no_room D.rules q) NoRoom None (tt {0}) (le-ltb most_letters (letters_in D.rules + (length q.left + length q.right)) (omega (arith, c.if-left-right.false)))
-    ∙ passed_first (rule_fault D.signature f q) _ (tt {0}) _ (tt {0}) (c.in-ok-shape-faults.ensures ∙ passed_first (word_faults D.signature q) (shape_faults D.signature f q) (tt {0}) _ (tt {0}) c.in-ok-word-faults.ensures)
+    ∙ passed_first (rule_fault D.signature f q) _ (tt {0}) _ (tt {0}) (c.in_ok-shape_faults.ensures ∙ passed_first (word_faults D.signature q) (shape_faults D.signature f q) (tt {0}) _ (tt {0}) c.in_ok-word_faults.ensures)
     ∙ ap (λ (o : Option ℕ). verdict (fault_under D o q) tt) c.in-Some.ensures

@@ -7,24 +7,24 @@ use Rattle.drafts.specs.Stores.{seen, named}
 use Rattle.drafts.proofs.Verdicts.{refused_first, passed_first, refuse, pass, passed}
 use Rattle.drafts.proofs.draft.Draft.sort_verdict.Goals as goal
 
-pub returns-in-err-new : goal.returns-in-err-new
-returns-in-err-new c =
+pub returns-in_err-new : goal.returns-in_err-new
+returns-in_err-new c =
     let D = seen c.args.self.now in
     let n = c.args.name.now in
     let p = err_from_is_err_and c.from-residual.result c.from-residual.ensures.1 in
-    ap named (p.1 ∙ ap Err p.2) ∙ refused_first (name_fault D n) (sorts_full D) n n _ c.in-err-new.ensures
+    ap named (p.1 ∙ ap Err p.2) ∙ refused_first (name_fault D n) (sorts_full D) n n _ c.in_err-new.ensures
 
-pub returns-then-sort-count-ge16 : goal.returns-then-sort-count-ge16
-returns-then-sort-count-ge16 c =
+pub returns-then-sort_count-ge16 : goal.returns-then-sort_count-ge16
+returns-then-sort_count-ge16 c =
     let D = seen c.args.self.now in
     let n = c.args.name.now in
-    refuse (leb 16 (length D.signature.sorts)) NoNumberLeft None n (le-leb 16 (length D.signature.sorts) (let e = c.sort-count.ensures in omega (arith, c.if-sort-count-ge16.true)))
-    ∙ passed_first (name_fault D n) (sorts_full D) n _ n c.in-ok-new.ensures
+    refuse (leb 16 (length D.signature.sorts)) NoNumberLeft None n (le-leb 16 (length D.signature.sorts) (let e = c.sort_count.ensures in omega (arith, c.if-sort_count-ge16.true)))
+    ∙ passed_first (name_fault D n) (sorts_full D) n _ n c.in_ok-new.ensures
 
 pub returns : goal.returns
 returns c =
     let D = seen c.args.self.now in
     let n = c.args.name.now in
-    ap Ok (passed (name_fault D n) n _ c.in-ok-new.ensures).1
-    ∙ pass (leb 16 (length D.signature.sorts)) NoNumberLeft None n (lt-leb 16 (length D.signature.sorts) (let e = c.sort-count.ensures in omega (arith, c.if-sort-count-ge16.false)))
-    ∙ passed_first (name_fault D n) (sorts_full D) n _ n c.in-ok-new.ensures
+    ap Ok (passed (name_fault D n) n _ c.in_ok-new.ensures).1
+    ∙ pass (leb 16 (length D.signature.sorts)) NoNumberLeft None n (lt-leb 16 (length D.signature.sorts) (let e = c.sort_count.ensures in omega (arith, c.if-sort_count-ge16.false)))
+    ∙ passed_first (name_fault D n) (sorts_full D) n _ n c.in_ok-new.ensures

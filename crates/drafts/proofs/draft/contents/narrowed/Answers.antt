@@ -3,8 +3,8 @@ use Rattle.std.proofs.lemmas.List.{length-set, take_all}
 use Rattle.drafts.proofs.Lists.{below_at, copied_more}
 use Rattle.drafts.proofs.draft.contents.narrowed.Goals as goal
 
-pub overflow-cast-bytes : goal.overflow-cast-bytes
-overflow-cast-bytes c = let b = below_at 16 c.args.sorts.now c.loop-i.i c.requires.small c.loop-i-test.true in omega arith
+pub overflow_cast-bytes : goal.overflow_cast-bytes
+overflow_cast-bytes c = let b = below_at 16 c.args.sorts.now c.loop-i.i c.requires.small c.loop-i-test.true in omega arith
 
 pub loop-i-preserved : goal.loop-i-preserved
 loop-i-preserved c = let v = c.loop-i.invariant in (copied_more c.loop-i.bytes c.args.sorts.now c.loop-i.i v.0 c.loop-i-test.true (omega (arith, c.requires.few)), simp length-set v.1)

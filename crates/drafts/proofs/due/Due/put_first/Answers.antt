@@ -4,15 +4,15 @@ use Rattle.drafts.specs.Dues.{pending}
 use Rattle.drafts.proofs.Dues.{put_before}
 use Rattle.drafts.proofs.due.Due.put_first.Goals as goal
 
-pub overflow-sub-start : goal.overflow-sub-start
-overflow-sub-start c =
+pub overflow_sub-start : goal.overflow_sub-start
+overflow_sub-start c =
     let d = c.args.self.now in
     let long : length d.sorts ≡ 256 = search rules in
     let l = length-drop d.start d.sorts in
     omega (arith, c.requires)
 
-pub copy-from-slice-requires : goal.copy-from-slice-requires
-copy-from-slice-requires c =
+pub copy_from_slice-requires : goal.copy_from_slice-requires
+copy_from_slice-requires c =
     let d = c.args.self.now in
     let long : length d.sorts ≡ 256 = search rules in
     let l = length-drop d.start d.sorts in
@@ -25,4 +25,4 @@ returns c =
     let d = c.args.self.now in
     let long : length d.sorts ≡ 256 = search rules in
     let l = length-drop d.start d.sorts in
-    put_before d.sorts c.copy-from-slice.new.self c.args.sorts.now d.start (omega arith) (omega (arith, c.requires)) c.copy-from-slice.ensures.after
+    put_before d.sorts c.copy_from_slice.new.self c.args.sorts.now d.start (omega arith) (omega (arith, c.requires)) c.copy_from_slice.ensures.after

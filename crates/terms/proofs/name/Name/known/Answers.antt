@@ -10,11 +10,11 @@ twelve = 0 ∷ 0 ∷ 0 ∷ 0 ∷ 0 ∷ 0 ∷ 0 ∷ 0 ∷ 0 ∷ 0 ∷ 0 ∷ 0 ∷
 few : (bs : List ℕ) → well_formed bs ≡ true → length bs ≤ 12
 few bs h = leb-true (length bs) 12 (and_parts (leb (length bs) 12) (in_form bs) h).0
 
-pub invariant-of-result : goal.invariant-of-result
-invariant-of-result c =
+pub invariant_of-result : goal.invariant_of-result
+invariant_of-result c =
     let bs = c.args.bytes.now in
-    let l = c.copy-from-slice.new.self in
-    let e = c.copy-from-slice.ensures.after in
+    let l = c.copy_from_slice.new.self in
+    let e = c.copy_from_slice.ensures.after in
     (copied_long l bs twelve e (few bs c.requires), (few bs c.requires, (ap well_formed (copied_front l bs _ e) ∙ c.requires, tt)))
 
 pub returns : goal.returns

@@ -7,8 +7,8 @@ use Rattle.terms.proofs.signature.Entry.new.Goals as goal
 abbrev four : List ℕ
 four = 0 ∷ 0 ∷ 0 ∷ 0 ∷ []
 
-pub invariant-of-result : goal.invariant-of-result
-invariant-of-result c = (copied_long c.copy-from-slice.new.self c.args.args.now four c.copy-from-slice.ensures.after c.if-args-gt-MOST-ARGUMENTS.false, (c.if-args-gt-MOST-ARGUMENTS.false, tt))
+pub invariant_of-result : goal.invariant_of-result
+invariant_of-result c = (copied_long c.copy_from_slice.new.self c.args.args.now four c.copy_from_slice.ensures.after c.if-args-gt-MOST_ARGUMENTS.false, (c.if-args-gt-MOST_ARGUMENTS.false, tt))
 
 pub returns : goal.returns
 returns c =

@@ -5,11 +5,11 @@ use Rattle.terms.proofs.Letters.{zero_one}
 use Rattle.terms.proofs.Tables.{length_sorts, seen_more, sort_added, sort_refused}
 use Rattle.terms.proofs.signature.Signature.add_sort.Goals as goal
 
-pub returns-then-self-eq-MOST-SORTS : goal.returns-then-self-eq-MOST-SORTS
-returns-then-self-eq-MOST-SORTS c =
+pub returns-then-self-eq-MOST_SORTS : goal.returns-then-self-eq-MOST_SORTS
+returns-then-self-eq-MOST_SORTS c =
     let g = c.args.self.now in
     let l = length_sorts g in
-    let e = sort_refused (bytes_of c.args.name) (view g) (omega (arith, c.if-self-eq-MOST-SORTS.true)) in
+    let e = sort_refused (bytes_of c.args.name) (view g) (omega (arith, c.if-self-eq-MOST_SORTS.true)) in
     record { answered = ap (λ (z : Change). z.answer) (sym e); becomes = ap (λ (z : Change). z.after) (sym e); kept = λ h. refl }
 
 pub returns : goal.returns

@@ -5,11 +5,11 @@ use Rattle.terms.proofs.Letters.{zero_one}
 use Rattle.terms.proofs.Tables.{length_symbols, seen_more, symbol_added, symbol_full, made}
 use Rattle.terms.proofs.signature.Signature.add_symbol.Goals as goal
 
-pub returns-then-self-eq-MOST-SYMBOLS : goal.returns-then-self-eq-MOST-SYMBOLS
-returns-then-self-eq-MOST-SYMBOLS c =
+pub returns-then-self-eq-MOST_SYMBOLS : goal.returns-then-self-eq-MOST_SYMBOLS
+returns-then-self-eq-MOST_SYMBOLS c =
     let g = c.args.self.now in
     let l = length_symbols g in
-    let e = symbol_full (declaring c.args.role c.args.name c.args.args.now c.args.sort) (view g) (omega (arith, c.if-self-eq-MOST-SYMBOLS.true)) in
+    let e = symbol_full (declaring c.args.role c.args.name c.args.args.now c.args.sort) (view g) (omega (arith, c.if-self-eq-MOST_SYMBOLS.true)) in
     record { answered = ap (λ (z : Change). z.answer) (sym e); becomes = ap (λ (z : Change). z.after) (sym e); kept = λ h. refl }
 
 pub returns : goal.returns

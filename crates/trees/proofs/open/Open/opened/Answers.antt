@@ -10,8 +10,8 @@ use Rattle.trees.proofs.open.Open.opened.Goals.{then_is, else_is}
 pub loop-i-init : goal.loop-i-init
 loop-i-init c = ap (λ (ps : List (List ℕ)). ps ++ opened (open_of c.args.self.now) (steps_of c.args.path.now) c.args.arity) c.none-open.ensures
 
-pub push-below-requires : goal.push-below-requires
-push-below-requires c =
+pub push_below-requires : goal.push_below-requires
+push_below-requires c =
     let p = steps_of c.args.path.now in
     let e = opened_more c.args.self.now c.loop-i.i c.index-self-i.result p c.args.arity true c.loop-i-test.true c.if-is.ensures in
     let r : length (open_of c.loop-i.open) + length (below p 1 c.args.arity) ≤ length (opened (open_of c.args.self.now) p c.args.arity) = opened_room _ _ _ _ _ c.loop-i.invariant e in
@@ -30,7 +30,7 @@ loop-i-preserved c =
     let o = c.args.self.now in
     let p = steps_of c.args.path.now in
     elim c.if-is.branch [
-      | then_is w ↦ opened_step (open_of c.loop-i.open) _ _ _ _ c.loop-i.invariant (opened_more o c.loop-i.i c.index-self-i.result p c.args.arity true c.loop-i-test.true w.if-is.ensures) _ (ap open_of w.open-is ∙ w.push-below.ensures)
+      | then_is w ↦ opened_step (open_of c.loop-i.open) _ _ _ _ c.loop-i.invariant (opened_more o c.loop-i.i c.index-self-i.result p c.args.arity true c.loop-i-test.true w.if-is.ensures) _ (ap open_of w.open-is ∙ w.push_below.ensures)
       | else_is w ↦ opened_step (open_of c.loop-i.open) _ _ _ _ c.loop-i.invariant (opened_more o c.loop-i.i c.index-self-i.result p c.args.arity false c.loop-i-test.true w.if-is.ensures) _ (ap open_of w.open-is ∙ w.push.ensures)
     ]
 

@@ -4,8 +4,8 @@ use Rattle.trees.specs.Views.{steps_of}
 use Rattle.trees.proofs.Opens.{length_open}
 use Rattle.trees.proofs.open.Open.path.Goals as goal
 
-pub offset-bounds-self-at : goal.offset-bounds-self-at
-offset-bounds-self-at c = let o = c.args.self.now in let l = length_open o in let f = o.fits in omega (arith, c.requires)
+pub offset_bounds-self-at : goal.offset_bounds-self-at
+offset_bounds-self-at c = let o = c.args.self.now in let l = length_open o in let f = o.fits in omega (arith, c.requires)
 
 pub listed : goal.listed
 listed c = let l = length_open c.args.self.now in omega (arith, c.requires)

@@ -11,8 +11,8 @@ listed c = let l = length_open c.args.self.now in omega (arith, c.requires)
 pub bounds-self-self : goal.bounds-self-self
 bounds-self-self c = let l = length_open c.args.self.now in omega (arith, c.requires)
 
-pub invariant-of-self : goal.invariant-of-self
-invariant-of-self c =
+pub invariant_of-self : goal.invariant_of-self
+invariant_of-self c =
     let o = c.args.self.now in
     let l = length_open o in
     (length-set o.paths o.count c.args.path ∙ o.long, omega (arith, c.requires))

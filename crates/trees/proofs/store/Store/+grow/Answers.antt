@@ -33,15 +33,15 @@ returns-in-Some t c =
       grown = rule_grown B.signature B.rules (nodes_of c.args.self.now) c.args.fuel ps rs x.0 c.in-Some.rule (fuel_left B (draft_short d) c.args.fuel ps rs c.requires.stage) x.1 x.2;
     }
 
-pub returns-in-err-shared : goal.returns-in-err-shared
-returns-in-err-shared t c =
+pub returns-in_err-shared : goal.returns-in_err-shared
+returns-in_err-shared t c =
     let d = c.args.draft.now in
     let B = book-of (seen d) in
     let ps = open_of c.args.positions.now in
     let m = c.args.remain.now in
     let rs = chosen m B.rules in
-    let e = place_none B.rules (sole_open ps rs) c.in-default.ensures in
-    let f = shared_none B.rules m (first_shared ps rs) c.in-err-shared.ensures in
+    let e = place_none B.rules (sole_open ps rs) c.in_default.ensures in
+    let f = shared_none B.rules m (first_shared ps rs) c.in_err-shared.ensures in
     record {
       added = none_added B (draft_short d) c.args.fuel ps rs c.requires.stage c.args.self.now;
       grown = none_grown B.signature B.rules (nodes_of c.args.self.now) (grow B.signature c.args.fuel ps rs) c.from-residual.result (grows_none B.signature c.args.fuel ps rs e f) c.from-residual.ensures;
@@ -54,9 +54,9 @@ loop-i-init t c =
     let ps = open_of c.args.positions.now in
     let m = c.args.remain.now in
     let n = c.args.fuel in
-    let s = c.in-ok-shared.shared in
+    let s = c.in_ok-shared.shared in
     let long : length s.heads ≡ 96 = search rules in
-    let b = branching d ps m n s c.requires.stage c.in-default.ensures c.in-ok-shared.ensures long in
+    let b = branching d ps m n s c.requires.stage c.in_default.ensures c.in_ok-shared.ensures long in
     branch_begins d ps m n s b c.args.self.now
 
 pub loop-i-preserved : goal.loop-i-preserved
@@ -66,13 +66,13 @@ loop-i-preserved t c =
     let ps = open_of c.args.positions.now in
     let m = c.args.remain.now in
     let n = c.args.fuel in
-    let s = c.in-ok-shared.shared in
+    let s = c.in_ok-shared.shared in
     let long : length s.heads ≡ 96 = search rules in
-    let b = branching d ps m n s c.requires.stage c.in-default.ensures c.in-ok-shared.ensures long in
+    let b = branching d ps m n s c.requires.stage c.in_default.ensures c.in_ok-shared.ensures long in
     let i = c.loop-i.i in
     let l : 0 < i = omega (arith, c.loop-i-test.true) in
     let k : i ≤ length s.heads = omega (arith, c.loop-i.auto.i) in
-    grown_skip B ps m n (steps_of s.path) s.heads i c.args.self.now c.loop-i.self c.loop-i.children c.loop-i.complete l k c.in-default-new-head.ensures c.loop-i.invariant
+    grown_skip B ps m n (steps_of s.path) s.heads i c.args.self.now c.loop-i.self c.loop-i.children c.loop-i.complete l k c.in_default-new_head.ensures c.loop-i.invariant
 
 pub opened-below-requires : goal.opened-below-requires
 opened-below-requires t c =
@@ -81,15 +81,15 @@ opened-below-requires t c =
     let ps = open_of c.args.positions.now in
     let m = c.args.remain.now in
     let n = c.args.fuel in
-    let s = c.in-ok-shared.shared in
+    let s = c.in_ok-shared.shared in
     let long : length s.heads ≡ 96 = search rules in
-    let b = branching d ps m n s c.requires.stage c.in-default.ensures c.in-ok-shared.ensures long in
+    let b = branching d ps m n s c.requires.stage c.in_default.ensures c.in_ok-shared.ensures long in
     let i = c.loop-i.i in
-    let x = c.in-Some-new-head.symbol in
+    let x = c.in-Some-new_head.symbol in
     let l : 0 < i = omega (arith, c.loop-i-test.true) in
     let k : i ≤ 96 = omega (arith, c.loop-i.auto.i) in
-    let new = c.in-Some-new-head.ensures in
-    let arity : c.arity-of.result ≡ length (head_args B.signature (symbol x)) = c.arity-of.ensures ∙ ap (λ (S : Signature). length (head_args S (symbol x))) c.requires.same in
+    let new = c.in-Some-new_head.ensures in
+    let arity : c.arity_of.result ≡ length (head_args B.signature (symbol x)) = c.arity_of.ensures ∙ ap (λ (S : Signature). length (head_args S (symbol x))) c.requires.same in
     let few = few_arguments d.signature x in
     record {
       few = omega arith;
@@ -97,8 +97,8 @@ opened-below-requires t c =
       room = subst (λ (z : ℕ). length (opened ps (steps_of s.path) z) ≤ 64) (sym arity) (new_open d ps m n s b i x l k new);
     }
 
-pub overflow-sub-fuel : goal.overflow-sub-fuel
-overflow-sub-fuel t c =
+pub overflow_sub-fuel : goal.overflow_sub-fuel
+overflow_sub-fuel t c =
     let d = c.args.draft.now in
     fuel_left (book-of (seen d)) (draft_short d) c.args.fuel (open_of c.args.positions.now) (chosen c.args.remain.now (book-of (seen d)).rules) c.requires.stage
 
@@ -109,46 +109,46 @@ grow-requires t c =
     let ps = open_of c.args.positions.now in
     let m = c.args.remain.now in
     let n = c.args.fuel in
-    let s = c.in-ok-shared.shared in
+    let s = c.in_ok-shared.shared in
     let long : length s.heads ≡ 96 = search rules in
-    let b = branching d ps m n s c.requires.stage c.in-default.ensures c.in-ok-shared.ensures long in
+    let b = branching d ps m n s c.requires.stage c.in_default.ensures c.in_ok-shared.ensures long in
     let i = c.loop-i.i in
-    let x = c.in-Some-new-head.symbol in
+    let x = c.in-Some-new_head.symbol in
     let l : 0 < i = omega (arith, c.loop-i-test.true) in
     let k : i ≤ 96 = omega (arith, c.loop-i.auto.i) in
-    let new = c.in-Some-new-head.ensures in
-    let arity : c.arity-of.result ≡ length (head_args B.signature (symbol x)) = c.arity-of.ensures ∙ ap (λ (S : Signature). length (head_args S (symbol x))) c.requires.same in
+    let new = c.in-Some-new_head.ensures in
+    let arity : c.arity_of.result ≡ length (head_args B.signature (symbol x)) = c.arity_of.ensures ∙ ap (λ (S : Signature). length (head_args S (symbol x))) c.requires.same in
     let qs : open_of c.opened-below.result ≡ opened ps (steps_of s.path) (length (head_args B.signature (symbol x))) = c.opened-below.ensures ∙ ap (opened ps (steps_of s.path)) arity in
-    let room = new_room d ps m n s b i x l k new c.with-head-rules.result c.args.self.now c.loop-i.self c.loop-i.children c.loop-i.complete c.with-head-rules.ensures c.loop-i.invariant in
+    let room = new_room d ps m n s b i x l k new c.with_head-rules.result c.args.self.now c.loop-i.self c.loop-i.children c.loop-i.complete c.with_head-rules.ensures c.loop-i.invariant in
     let all = paid_all d ps m n s b in
-    (omega (arith, c.decreases, fuel_left B (draft_short d) n ps (chosen m B.rules) c.requires.stage), (c.requires.same, (new_child d ps m n s b i x l k new (open_of c.opened-below.result) c.with-head-rules.result qs c.with-head-rules.ensures, omega (arith, c.requires.room))))
+    (omega (arith, c.decreases, fuel_left B (draft_short d) n ps (chosen m B.rules) c.requires.stage), (c.requires.same, (new_child d ps m n s b i x l k new (open_of c.opened-below.result) c.with_head-rules.result qs c.with_head-rules.ensures, omega (arith, c.requires.room))))
 
-pub returns-in-err-child : goal.returns-in-err-child
-returns-in-err-child t c =
+pub returns-in_err-child : goal.returns-in_err-child
+returns-in_err-child t c =
     let d = c.args.draft.now in
     let B = book-of (seen d) in
     let ps = open_of c.args.positions.now in
     let m = c.args.remain.now in
     let n = c.args.fuel in
-    let s = c.in-ok-shared.shared in
+    let s = c.in_ok-shared.shared in
     let long : length s.heads ≡ 96 = search rules in
-    let b = branching d ps m n s c.requires.stage c.in-default.ensures c.in-ok-shared.ensures long in
+    let b = branching d ps m n s c.requires.stage c.in_default.ensures c.in_ok-shared.ensures long in
     let i = c.loop-i.i in
-    let x = c.in-Some-new-head.symbol in
+    let x = c.in-Some-new_head.symbol in
     let l : 0 < i = omega (arith, c.loop-i-test.true) in
     let k : i ≤ 96 = omega (arith, c.loop-i.auto.i) in
-    let new = c.in-Some-new-head.ensures in
-    let arity : c.arity-of.result ≡ length (head_args B.signature (symbol x)) = c.arity-of.ensures ∙ ap (λ (S : Signature). length (head_args S (symbol x))) c.requires.same in
+    let new = c.in-Some-new_head.ensures in
+    let arity : c.arity_of.result ≡ length (head_args B.signature (symbol x)) = c.arity_of.ensures ∙ ap (λ (S : Signature). length (head_args S (symbol x))) c.requires.same in
     let qs : open_of c.opened-below.result ≡ opened ps (steps_of s.path) (length (head_args B.signature (symbol x))) = c.opened-below.ensures ∙ ap (opened ps (steps_of s.path)) arity in
-    let room = new_room d ps m n s b i x l k new c.with-head-rules.result c.args.self.now c.loop-i.self c.loop-i.children c.loop-i.complete c.with-head-rules.ensures c.loop-i.invariant in
-    let tree = new_tree d ps m n s b i x l k new (open_of c.opened-below.result) c.with-head-rules.result qs c.with-head-rules.ensures in
-    let z = c.in-err-child.ensures in
-    let missing = sym tree ∙ grown_none B.signature B.rules (nodes_of c.grow.new.self) (grow B.signature (n - 1) (open_of c.opened-below.result) (chosen c.with-head-rules.result B.rules)) z.grown in
+    let room = new_room d ps m n s b i x l k new c.with_head-rules.result c.args.self.now c.loop-i.self c.loop-i.children c.loop-i.complete c.with_head-rules.ensures c.loop-i.invariant in
+    let tree = new_tree d ps m n s b i x l k new (open_of c.opened-below.result) c.with_head-rules.result qs c.with_head-rules.ensures in
+    let z = c.in_err-child.ensures in
+    let missing = sym tree ∙ grown_none B.signature B.rules (nodes_of c.grow.new.self) (grow B.signature (n - 1) (open_of c.opened-below.result) (chosen c.with_head-rules.result B.rules)) z.grown in
     let rs = chosen m B.rules in
     record {
-      added = child_added B ps m n (steps_of s.path) s.heads i c.args.self.now c.loop-i.self c.grow.new.self c.loop-i.children c.loop-i.complete (cost n rs) (cost (n - 1) (chosen c.with-head-rules.result B.rules)) (paid_all d ps m n s b) c.loop-i.invariant room z.added;
-      grown = none_grown B.signature B.rules (nodes_of c.grow.new.self) (grow B.signature n ps rs) c.from-residual-in-err-child.result
-          (child_missing B ps m n (steps_of s.path) s.heads (symbol x) (fuel_left B (draft_short d) n ps rs c.requires.stage) b.none b.shared (is_new d ps m n s b i x l k new) missing) c.from-residual-in-err-child.ensures;
+      added = child_added B ps m n (steps_of s.path) s.heads i c.args.self.now c.loop-i.self c.grow.new.self c.loop-i.children c.loop-i.complete (cost n rs) (cost (n - 1) (chosen c.with_head-rules.result B.rules)) (paid_all d ps m n s b) c.loop-i.invariant room z.added;
+      grown = none_grown B.signature B.rules (nodes_of c.grow.new.self) (grow B.signature n ps rs) c.from-residual-in_err-child.result
+          (child_missing B ps m n (steps_of s.path) s.heads (symbol x) (fuel_left B (draft_short d) n ps rs c.requires.stage) b.none b.shared (is_new d ps m n s b i x l k new) missing) c.from-residual-in_err-child.ensures;
     }
 
 pub push-requires : goal.push-requires
@@ -158,49 +158,49 @@ push-requires t c =
     let ps = open_of c.args.positions.now in
     let m = c.args.remain.now in
     let n = c.args.fuel in
-    let s = c.in-ok-shared.shared in
+    let s = c.in_ok-shared.shared in
     let long : length s.heads ≡ 96 = search rules in
-    let b = branching d ps m n s c.requires.stage c.in-default.ensures c.in-ok-shared.ensures long in
+    let b = branching d ps m n s c.requires.stage c.in_default.ensures c.in_ok-shared.ensures long in
     let i = c.loop-i.i in
-    let x = c.in-Some-new-head.symbol in
+    let x = c.in-Some-new_head.symbol in
     let l : 0 < i = omega (arith, c.loop-i-test.true) in
     let k : i ≤ 96 = omega (arith, c.loop-i.auto.i) in
-    let new = c.in-Some-new-head.ensures in
-    let room = new_room d ps m n s b i x l k new c.with-head-rules.result c.args.self.now c.loop-i.self c.loop-i.children c.loop-i.complete c.with-head-rules.ensures c.loop-i.invariant in
+    let new = c.in-Some-new_head.ensures in
+    let room = new_room d ps m n s b i x l k new c.with_head-rules.result c.args.self.now c.loop-i.self c.loop-i.children c.loop-i.complete c.with_head-rules.ensures c.loop-i.invariant in
     let all = paid_all d ps m n s b in
-    omega (arith, c.requires.room, c.in-ok-child.ensures.added.fewer)
+    omega (arith, c.requires.room, c.in_ok-child.ensures.added.fewer)
 
-pub loop-i-preserved-in-Some-new-head : goal.loop-i-preserved-in-Some-new-head
-loop-i-preserved-in-Some-new-head t c =
+pub loop-i-preserved-in-Some-new_head : goal.loop-i-preserved-in-Some-new_head
+loop-i-preserved-in-Some-new_head t c =
     let d = c.args.draft.now in
     let B = book-of (seen d) in
     let ps = open_of c.args.positions.now in
     let m = c.args.remain.now in
     let n = c.args.fuel in
-    let s = c.in-ok-shared.shared in
+    let s = c.in_ok-shared.shared in
     let long : length s.heads ≡ 96 = search rules in
-    let b = branching d ps m n s c.requires.stage c.in-default.ensures c.in-ok-shared.ensures long in
+    let b = branching d ps m n s c.requires.stage c.in_default.ensures c.in_ok-shared.ensures long in
     let i = c.loop-i.i in
-    let x = c.in-Some-new-head.symbol in
+    let x = c.in-Some-new_head.symbol in
     let l : 0 < i = omega (arith, c.loop-i-test.true) in
     let k : i ≤ 96 = omega (arith, c.loop-i.auto.i) in
-    let new = c.in-Some-new-head.ensures in
-    let arity : c.arity-of.result ≡ length (head_args B.signature (symbol x)) = c.arity-of.ensures ∙ ap (λ (S : Signature). length (head_args S (symbol x))) c.requires.same in
+    let new = c.in-Some-new_head.ensures in
+    let arity : c.arity_of.result ≡ length (head_args B.signature (symbol x)) = c.arity_of.ensures ∙ ap (λ (S : Signature). length (head_args S (symbol x))) c.requires.same in
     let qs : open_of c.opened-below.result ≡ opened ps (steps_of s.path) (length (head_args B.signature (symbol x))) = c.opened-below.ensures ∙ ap (opened ps (steps_of s.path)) arity in
-    let tree = new_tree d ps m n s b i x l k new (open_of c.opened-below.result) c.with-head-rules.result qs c.with-head-rules.ensures in
-    let z = c.in-ok-child.ensures in
-    let g = grown_some B.signature B.rules (nodes_of c.grow.new.self) (grow B.signature (n - 1) (open_of c.opened-below.result) (chosen c.with-head-rules.result B.rules)) c.in-ok-child.child z.grown in
+    let tree = new_tree d ps m n s b i x l k new (open_of c.opened-below.result) c.with_head-rules.result qs c.with_head-rules.ensures in
+    let z = c.in_ok-child.ensures in
+    let g = grown_some B.signature B.rules (nodes_of c.grow.new.self) (grow B.signature (n - 1) (open_of c.opened-below.result) (chosen c.with_head-rules.result B.rules)) c.in_ok-child.child z.grown in
     let q = steps_of s.path in
     let a = c.args.self.now in
-    let both : c.if-complete.complete ≡ (c.loop-i.complete && c.in-ok-child.child.complete) =
+    let both : c.if-complete.complete ≡ (c.loop-i.complete && c.in_ok-child.child.complete) =
     elim c.if-complete.branch [
-      | then-complete w ↦ w.complete-is ∙ ap (λ (y : Bool). y && c.in-ok-child.child.complete) (sym w.if-complete.true)
-      | else-complete w ↦ w.complete-is ∙ w.if-complete.false ∙ ap (λ (y : Bool). y && c.in-ok-child.child.complete) (sym w.if-complete.false)
+      | then-complete w ↦ w.complete-is ∙ ap (λ (y : Bool). y && c.in_ok-child.child.complete) (sym w.if-complete.true)
+      | else-complete w ↦ w.complete-is ∙ w.if-complete.false ∙ ap (λ (y : Bool). y && c.in_ok-child.child.complete) (sym w.if-complete.false)
     ] in
     subst (λ (y : Bool). GrownTo B ps m n q s.heads (i - 1) a c.push.new.self (Some c.push.result) y) (sym both)
-    (subst (λ (y : ℕ). GrownTo B ps m n q s.heads (i - 1) a c.push.new.self (Some y) (c.loop-i.complete && c.in-ok-child.child.complete)) (sym c.push.ensures.place)
-    (grown_more B ps m n q s.heads i x a c.loop-i.self c.grow.new.self c.push.new.self c.loop-i.children c.loop-i.complete c.in-ok-child.child _ g.0 l (omega arith) new c.loop-i.invariant
-    (subst (Added c.loop-i.self c.grow.new.self) (new_cost d ps m n s b i x l k new c.with-head-rules.result c.with-head-rules.ensures) z.added)
+    (subst (λ (y : ℕ). GrownTo B ps m n q s.heads (i - 1) a c.push.new.self (Some y) (c.loop-i.complete && c.in_ok-child.child.complete)) (sym c.push.ensures.place)
+    (grown_more B ps m n q s.heads i x a c.loop-i.self c.grow.new.self c.push.new.self c.loop-i.children c.loop-i.complete c.in_ok-child.child _ g.0 l (omega arith) new c.loop-i.invariant
+    (subst (Added c.loop-i.self c.grow.new.self) (new_cost d ps m n s b i x l k new c.with_head-rules.result c.with_head-rules.ensures) z.added)
     (sym tree ∙ g.1) g.2 g.3 c.push.ensures.pushed c.push.ensures.count refl refl refl))
 
 pub covers-covered-requires : goal.covers-covered-requires
@@ -210,9 +210,9 @@ covers-covered-requires t c =
     let ps = open_of c.args.positions.now in
     let m = c.args.remain.now in
     let n = c.args.fuel in
-    let s = c.in-ok-shared.shared in
+    let s = c.in_ok-shared.shared in
     let long : length s.heads ≡ 96 = search rules in
-    let b = branching d ps m n s c.requires.stage c.in-default.ensures c.in-ok-shared.ensures long in
+    let b = branching d ps m n s c.requires.stage c.in_default.ensures c.in_ok-shared.ensures long in
     let z : c.loop-i.i ≡ 0 = omega (arith, c.loop-i-test.false) in
     let h = subst (λ (i : ℕ). GrownTo B ps m n (steps_of s.path) s.heads i c.args.self.now c.loop-i.self c.loop-i.children c.loop-i.complete) z c.loop-i.invariant in
     branch_leads d ps m n s b c.args.self.now c.loop-i.self c.loop-i.children c.loop-i.complete h
@@ -224,9 +224,9 @@ returns t c =
     let ps = open_of c.args.positions.now in
     let m = c.args.remain.now in
     let n = c.args.fuel in
-    let s = c.in-ok-shared.shared in
+    let s = c.in_ok-shared.shared in
     let long : length s.heads ≡ 96 = search rules in
-    let b = branching d ps m n s c.requires.stage c.in-default.ensures c.in-ok-shared.ensures long in
+    let b = branching d ps m n s c.requires.stage c.in_default.ensures c.in_ok-shared.ensures long in
     let z : c.loop-i.i ≡ 0 = omega (arith, c.loop-i-test.false) in
     let h = subst (λ (i : ℕ). GrownTo B ps m n (steps_of s.path) s.heads i c.args.self.now c.loop-i.self c.loop-i.children c.loop-i.complete) z c.loop-i.invariant in
     let covered = branch_covered d ps m n s b c.args.signature.now c.covers-covered.result c.requires.same c.covers-covered.ensures in

@@ -11,11 +11,11 @@ returns-else-not-makes c =
     let S = view c.args.signature.now in
     let cs = there c.args.heads.now in
     let s = c.args.symbol in
-    c.is-some.ensures
+    c.is_some.ensures
     ∙ ap is_some c.seek.ensures
     ∙ c.requires.leads s
     ∙ sym (among_there s c.args.heads.now)
     ∙ sym (
     covered_met S cs s (slice_get S.symbols s)
     (let r = role_symbol S s c.requires.declared in let n = c.number.ensures in let e = c.in-Some-Constructor.ensures in cc)
-    (ap (λ (k : ℕ). makes S k cs) (sym c.sort-of.ensures) ∙ sym c.if-not-makes.ensures))
+    (ap (λ (k : ℕ). makes S k cs) (sym c.sort_of.ensures) ∙ sym c.if-not-makes.ensures))

@@ -15,34 +15,34 @@ use Rattle.trees.proofs.Branches.{few_arguments}
 use Rattle.trees.proofs.Rooting.{length_nodes, call_open, function_stage, function_tree, function_room, no_tree, incomplete, complete, function_added}
 use Rattle.trees.proofs.trees.Trees.add_function.Goals as goal
 
-pub of-call-open-requires : goal.of-call-open-requires
-of-call-open-requires c = let f = few_arguments c.args.signature.now c.args.function in omega (arith, c.arity-of.ensures)
+pub of_call-open-requires : goal.of_call-open-requires
+of_call-open-requires c = let f = few_arguments c.args.signature.now c.args.function in omega (arith, c.arity_of.ensures)
 
 pub grow-requires : goal.grow-requires
 grow-requires c =
     let d = c.args.draft.now in
     let S = (seen d).signature in
     let f = c.args.function in
-    let e : open_of c.of-call-open.result ≡ open_call S f = call_open f c.of-call-open.ensures c.arity-of.ensures c.requires.same in
-    let r = function_room d f c.requires.whole c.requires.function (open_of c.of-call-open.result) c.rules-of-rules.result e c.rules-of-rules.ensures in
+    let e : open_of c.of_call-open.result ≡ open_call S f = call_open f c.of_call-open.ensures c.arity_of.ensures c.requires.same in
+    let r = function_room d f c.requires.whole c.requires.function (open_of c.of_call-open.result) c.rules_of-rules.result e c.rules_of-rules.ensures in
     let l = length_nodes c.args.self.now.store in
     record {
       same = c.requires.same;
-      stage = function_stage d f c.requires.whole c.requires.function (open_of c.of-call-open.result) c.rules-of-rules.result e c.rules-of-rules.ensures;
+      stage = function_stage d f c.requires.whole c.requires.function (open_of c.of_call-open.result) c.rules_of-rules.result e c.rules_of-rules.ensures;
       room = omega (arith, c.requires.room);
     }
 
-pub returns-in-default : goal.returns-in-default
-returns-in-default c =
+pub returns-in_default : goal.returns-in_default
+returns-in_default c =
     let d = c.args.draft.now in
     let B = book-of (seen d) in
     let S = (seen d).signature in
     let f = c.args.function in
-    let ps = open_of c.of-call-open.result in
-    let ms = c.rules-of-rules.result in
-    let e : ps ≡ open_call S f = call_open f c.of-call-open.ensures c.arity-of.ensures c.requires.same in
-    let t = function_tree d f c.requires.whole c.requires.function ps ms e c.rules-of-rules.ensures in
-    let n = grown_none S B.rules (nodes_of c.grow.new.self) (grow S longest_side ps (chosen ms B.rules)) c.in-default.ensures.grown in
+    let ps = open_of c.of_call-open.result in
+    let ms = c.rules_of-rules.result in
+    let e : ps ≡ open_call S f = call_open f c.of_call-open.ensures c.arity_of.ensures c.requires.same in
+    let t = function_tree d f c.requires.whole c.requires.function ps ms e c.rules_of-rules.ensures in
+    let n = grown_none S B.rules (nodes_of c.grow.new.self) (grow S longest_side ps (chosen ms B.rules)) c.in_default.ensures.grown in
     record { fault = no_tree tt S f (fixed_tree B f) (sym t ∙ n); added = tt }
 
 pub returns-then-not-grown : goal.returns-then-not-grown
@@ -51,10 +51,10 @@ returns-then-not-grown c =
     let B = book-of (seen d) in
     let S = (seen d).signature in
     let f = c.args.function in
-    let ps = open_of c.of-call-open.result in
-    let ms = c.rules-of-rules.result in
-    let e : ps ≡ open_call S f = call_open f c.of-call-open.ensures c.arity-of.ensures c.requires.same in
-    let t = function_tree d f c.requires.whole c.requires.function ps ms e c.rules-of-rules.ensures in
+    let ps = open_of c.of_call-open.result in
+    let ms = c.rules_of-rules.result in
+    let e : ps ≡ open_call S f = call_open f c.of_call-open.ensures c.arity_of.ensures c.requires.same in
+    let t = function_tree d f c.requires.whole c.requires.function ps ms e c.rules_of-rules.ensures in
     let g = grown_some S B.rules (nodes_of c.grow.new.self) (grow S longest_side ps (chosen ms B.rules)) c.in-Some.grown c.in-Some.ensures.grown in
     let no : c.in-Some.grown.complete ≡ false = not-true c.in-Some.grown.complete c.if-not-grown.true in
     record { fault = incomplete tt S f (fixed_tree B f) g.0 (sym t ∙ g.1) (sym g.3 ∙ no); added = tt }
@@ -64,8 +64,8 @@ push-root-requires c =
     let d = c.args.draft.now in
     let S = (seen d).signature in
     let f = c.args.function in
-    let e : open_of c.of-call-open.result ≡ open_call S f = call_open f c.of-call-open.ensures c.arity-of.ensures c.requires.same in
-    let r = function_room d f c.requires.whole c.requires.function (open_of c.of-call-open.result) c.rules-of-rules.result e c.rules-of-rules.ensures in
+    let e : open_of c.of_call-open.result ≡ open_call S f = call_open f c.of_call-open.ensures c.arity_of.ensures c.requires.same in
+    let r = function_room d f c.requires.whole c.requires.function (open_of c.of_call-open.result) c.rules_of-rules.result e c.rules_of-rules.ensures in
     let l = length_nodes c.args.self.now.store in
     omega (arith, c.requires.room, c.in-Some.ensures.added.fewer)
 
@@ -82,11 +82,11 @@ returns c =
     let B = book-of (seen d) in
     let S = (seen d).signature in
     let f = c.args.function in
-    let ps = open_of c.of-call-open.result in
-    let ms = c.rules-of-rules.result in
-    let e : ps ≡ open_call S f = call_open f c.of-call-open.ensures c.arity-of.ensures c.requires.same in
-    let t = function_tree d f c.requires.whole c.requires.function ps ms e c.rules-of-rules.ensures in
-    let r = function_room d f c.requires.whole c.requires.function ps ms e c.rules-of-rules.ensures in
+    let ps = open_of c.of_call-open.result in
+    let ms = c.rules_of-rules.result in
+    let e : ps ≡ open_call S f = call_open f c.of_call-open.ensures c.arity_of.ensures c.requires.same in
+    let t = function_tree d f c.requires.whole c.requires.function ps ms e c.rules_of-rules.ensures in
+    let r = function_room d f c.requires.whole c.requires.function ps ms e c.rules_of-rules.ensures in
     let z = c.in-Some.ensures in
     let g = grown_some S B.rules (nodes_of c.grow.new.self) (grow S longest_side ps (chosen ms B.rules)) c.in-Some.grown z.grown in
     let l : f < length c.args.self.now.roots = (let k = (sound_contents d).few-symbols in let n = nth_below S.symbols f c.requires.function.1 in let w = c.args.self.now.long in omega arith) in

@@ -7,28 +7,28 @@ use Rattle.trees.specs.declared.fault.CheckFault.{CheckFault}
 use Rattle.trees.proofs.Rooting.{nothing_added, function_told, a_function, no_function, function_fault, no_fault}
 use Rattle.trees.proofs.trees.Trees.add_tree.Goals as goal
 
-pub add-function-requires : goal.add-function-requires
-add-function-requires c =
+pub add_function-requires : goal.add_function-requires
+add_function-requires c =
     let d = c.args.draft.now in
     let S = (seen d).signature in
     let s = c.args.symbol in
     let few : s < 96 = (let k = (sound_contents d).few-symbols in omega (arith, c.requires.declared)) in
-    record { same = c.requires.same; whole = c.requires.whole; function = a_function S s (function_told S (view c.args.signature.now) s true few c.requires.same c.if-is-function.ensures); room = c.requires.room }
+    record { same = c.requires.same; whole = c.requires.whole; function = a_function S s (function_told S (view c.args.signature.now) s true few c.requires.same c.if-is_function.ensures); room = c.requires.room }
 
-pub returns-then-is-function : goal.returns-then-is-function
-returns-then-is-function c =
+pub returns-then-is_function : goal.returns-then-is_function
+returns-then-is_function c =
     let d = c.args.draft.now in
     let S = (seen d).signature in
     let s = c.args.symbol in
     let few : s < 96 = (let k = (sound_contents d).few-symbols in omega (arith, c.requires.declared)) in
-    let h = a_function S s (function_told S (view c.args.signature.now) s true few c.requires.same c.if-is-function.ensures) in
-    record { fault = c.add-function.ensures.fault ∙ ap (λ (o : Option CheckFault). verdict o tt) (sym (function_fault (book-of (seen d)) s h)); added = c.add-function.ensures.added }
+    let h = a_function S s (function_told S (view c.args.signature.now) s true few c.requires.same c.if-is_function.ensures) in
+    record { fault = c.add_function.ensures.fault ∙ ap (λ (o : Option CheckFault). verdict o tt) (sym (function_fault (book-of (seen d)) s h)); added = c.add_function.ensures.added }
 
-pub returns-else-is-function : goal.returns-else-is-function
-returns-else-is-function c =
+pub returns-else-is_function : goal.returns-else-is_function
+returns-else-is_function c =
     let d = c.args.draft.now in
     let S = (seen d).signature in
     let s = c.args.symbol in
     let few : s < 96 = (let k = (sound_contents d).few-symbols in omega (arith, c.requires.declared)) in
-    let n = function_told S (view c.args.signature.now) s false few c.requires.same c.if-is-function.ensures in
+    let n = function_told S (view c.args.signature.now) s false few c.requires.same c.if-is_function.ensures in
     record { fault = ap (λ (o : Option CheckFault). verdict o tt) (sym (no_fault (book-of (seen d)) s n)); added = nothing_added (book-of (seen d)) s c.args.self.now (no_function S s n) }

@@ -15,11 +15,11 @@ found ns at s n k r e i h = h ∙ ap (λ (x : Kind). seek (length ns) ns (first_
 pub returns-in-Branch : goal.returns-in-Branch
 returns-in-Branch c =
     let ns = nodes_in c.args.self.now in
-    let v = found ns c.args.place c.args.symbol c.in-ok-first.field-0 _ c.seek.result c.in-ok-first.ensures c.in-Branch.is c.seek.ensures in
+    let v = found ns c.args.place c.args.symbol c.in_ok-first.field-0 _ c.seek.result c.in_ok-first.ensures c.in-Branch.is c.seek.ensures in
     record { value = v; finds = branch_finds ns c.args.place c.args.symbol c.seek.result v }
 
 pub returns-in-Rule : goal.returns-in-Rule
 returns-in-Rule c =
     let ns = nodes_in c.args.self.now in
-    let v = found ns c.args.place c.args.symbol c.in-ok-first.field-0 _ None c.in-ok-first.ensures c.in-Rule.is (sym (seek_none ns c.args.symbol (length ns))) in
+    let v = found ns c.args.place c.args.symbol c.in_ok-first.field-0 _ None c.in_ok-first.ensures c.in-Rule.is (sym (seek_none ns c.args.symbol (length ns))) in
     record { value = v; finds = branch_finds ns c.args.place c.args.symbol None v }

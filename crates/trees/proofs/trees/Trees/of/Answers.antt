@@ -25,24 +25,24 @@ loop-symbol-init c =
     let n = ap (λ (ns : List Node). length ns) c.none-trees.ensures.nodes in
     record { faultless = refl; rooted = λ f l h. absurd (omega arith); room = omega arith }
 
-pub add-tree-requires : goal.add-tree-requires
-add-tree-requires c =
+pub add_tree-requires : goal.add_tree-requires
+add_tree-requires c =
     let d = c.args.draft.now in
-    let n : c.symbol-count-symbol-end.result ≡ length (seen d).signature.symbols = c.symbol-count-symbol-end.ensures ∙ ap (λ (S : Signature). length S.symbols) c.signature-signature.ensures.value in
-    record { same = c.signature-signature.ensures.value; whole = sym c.in-default.ensures; declared = omega (arith, c.loop-symbol-test.true); room = c.loop-symbol.invariant.room }
+    let n : c.symbol_count-symbol-end.result ≡ length (seen d).signature.symbols = c.symbol_count-symbol-end.ensures ∙ ap (λ (S : Signature). length S.symbols) c.signature-signature.ensures.value in
+    record { same = c.signature-signature.ensures.value; whole = sym c.in_default.ensures; declared = omega (arith, c.loop-symbol-test.true); room = c.loop-symbol.invariant.room }
 
-pub returns-in-err-add-tree : goal.returns-in-err-add-tree
-returns-in-err-add-tree c =
+pub returns-in_err-add_tree : goal.returns-in_err-add_tree
+returns-in_err-add_tree c =
     let d = c.args.draft.now in
     let B = book-of (seen d) in
     let s = c.loop-symbol.symbol in
-    let n : c.symbol-count-symbol-end.result ≡ length (seen d).signature.symbols = c.symbol-count-symbol-end.ensures ∙ ap (λ (S : Signature). length S.symbols) c.signature-signature.ensures.value in
+    let n : c.symbol_count-symbol-end.result ≡ length (seen d).signature.symbols = c.symbol_count-symbol-end.ensures ∙ ap (λ (S : Signature). length S.symbols) c.signature-signature.ensures.value in
     let p = err_from_is_err_and c.from-residual.result c.from-residual.ensures.1 in
-    let e = c.in-err-add-tree.field-0.0 in
-    let f = up_to_fault B s c.loop-symbol.trees e (omega (arith, c.loop-symbol-test.true)) (refused (fault_at B s) tt e c.in-err-add-tree.ensures.fault) c.loop-symbol.invariant in
+    let e = c.in_err-add_tree.field-0.0 in
+    let f = up_to_fault B s c.loop-symbol.trees e (omega (arith, c.loop-symbol-test.true)) (refused (fault_at B s) tt e c.in_err-add_tree.ensures.fault) c.loop-symbol.invariant in
     let r = p.1 ∙ ap Err p.2 in
     record {
-      fault = ap refusal r ∙ sym f ∙ ap (λ (o : Option ℕ). or_else (mapped RulesMissing o) (first_fault B 0 B.signature.symbols)) c.in-default.ensures;
+      fault = ap refusal r ∙ sym f ∙ ap (λ (o : Option ℕ). or_else (mapped RulesMissing o) (first_fault B 0 B.signature.symbols)) c.in_default.ensures;
       rooted = subst (λ (x : Result Trees CheckFault). IfOk x (AllRooted B)) (sym r) tt;
     }
 
@@ -51,18 +51,18 @@ loop-symbol-preserved c =
     let d = c.args.draft.now in
     let B = book-of (seen d) in
     let s = c.loop-symbol.symbol in
-    let n : c.symbol-count-symbol-end.result ≡ length (seen d).signature.symbols = c.symbol-count-symbol-end.ensures ∙ ap (λ (S : Signature). length S.symbols) c.signature-signature.ensures.value in
-    let z = c.in-ok-add-tree.ensures in
-    up_to_next B s c.loop-symbol.trees c.add-tree.new.self (omega (arith, c.loop-symbol-test.true)) (passed (fault_at B s) tt _ z.fault).0 z.added c.loop-symbol.invariant
+    let n : c.symbol_count-symbol-end.result ≡ length (seen d).signature.symbols = c.symbol_count-symbol-end.ensures ∙ ap (λ (S : Signature). length S.symbols) c.signature-signature.ensures.value in
+    let z = c.in_ok-add_tree.ensures in
+    up_to_next B s c.loop-symbol.trees c.add_tree.new.self (omega (arith, c.loop-symbol-test.true)) (passed (fault_at B s) tt _ z.fault).0 z.added c.loop-symbol.invariant
 
 pub returns : goal.returns
 returns c =
     let d = c.args.draft.now in
     let B = book-of (seen d) in
     let s = c.loop-symbol.symbol in
-    let n : c.symbol-count-symbol-end.result ≡ length (seen d).signature.symbols = c.symbol-count-symbol-end.ensures ∙ ap (λ (S : Signature). length S.symbols) c.signature-signature.ensures.value in
+    let n : c.symbol_count-symbol-end.result ≡ length (seen d).signature.symbols = c.symbol_count-symbol-end.ensures ∙ ap (λ (S : Signature). length S.symbols) c.signature-signature.ensures.value in
     let h = c.loop-symbol.invariant in
     record {
-      fault = sym (first_none B s c.loop-symbol.trees (omega (arith, c.loop-symbol-test.false)) h) ∙ ap (λ (o : Option ℕ). or_else (mapped RulesMissing o) (first_fault B 0 B.signature.symbols)) c.in-default.ensures;
+      fault = sym (first_none B s c.loop-symbol.trees (omega (arith, c.loop-symbol-test.false)) h) ∙ ap (λ (o : Option ℕ). or_else (mapped RulesMissing o) (first_fault B 0 B.signature.symbols)) c.in_default.ensures;
       rooted = λ f k. let g = function_stands d f k in let l = nth_below B.signature.symbols f g.1 in h.rooted f (omega (arith, c.loop-symbol-test.false)) g;
     }
