@@ -1,3 +1,5 @@
 // Checked books.
+#![tactic(auto)]
+
 pub mod book;
 pub mod rules;

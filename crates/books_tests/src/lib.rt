@@ -1,4 +1,6 @@
 // Tests of Check: which drafts are books, which function is named, and what the place then holds.
+#![tactic(auto)]
+
 #[cfg(test)]
 mod tests {
     use books::book::Book;

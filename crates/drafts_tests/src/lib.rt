@@ -1,4 +1,6 @@
 // Tests of drafts: every refusal with its number and place, and the exact bounds.
+#![tactic(auto)]
+
 #[cfg(test)]
 mod tests {
     use drafts::draft::Draft;

@@ -1,4 +1,6 @@
 // A pulse generator feeds four meters, each of its own number kind.
+#![tactic(auto)]
+
 ghost use Rattle.std.specs.Prelude.{◌≡◌, true, length, take, sum, count_by, nat_le};
 ghost use Rattle.meters.specs.Sweep.{fed, standstill, ticked, same_mark, shows as shown, filled, last_of, SoundPanel, Steady, AddsUp, totals_of};
 

@@ -1,4 +1,6 @@
 // A guided tour: a sweep of a pulse generator from standstill to the red line, then words taken apart, then a book drafted.
+#![tactic(auto)]
+
 mod drafting;
 mod parts;
 mod show;

@@ -1,4 +1,5 @@
 // Drafts are checked, and a book is shown with its trees.
+#![tactic(auto)]
 
 mod checking;
 mod spelling;

@@ -1,4 +1,6 @@
 // Definitional trees in an array of nodes, grown from the rules of a draft.
+#![tactic(auto)]
+
 pub mod fault;
 mod grown;
 mod heads;

@@ -1,4 +1,6 @@
 // Words of terms: where their parts end and stand, and what is wrong with a word that is no term.
+#![tactic(auto)]
+
 pub mod checks;
 pub mod fault;
 pub mod lawful;

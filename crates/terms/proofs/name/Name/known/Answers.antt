@@ -15,7 +15,7 @@ invariant_of-result c =
     let bs = c.args.bytes.now in
     let l = c.copy_from_slice.new.self in
     let e = c.copy_from_slice.ensures.after in
-    (copied_long l bs twelve e (few bs c.requires), (few bs c.requires, (ap well_formed (copied_front l bs _ e) ∙ c.requires, tt)))
+    record { twelve = copied_long l bs twelve e (few bs c.requires); fits = few bs c.requires; formed = ap well_formed (copied_front l bs _ e) ∙ c.requires }
 
 pub returns : goal.returns
 returns c = copied_front c.copy_from_slice.new.self c.args.bytes.now _ c.copy_from_slice.ensures.after

@@ -8,7 +8,11 @@ abbrev four : List ℕ
 four = 0 ∷ 0 ∷ 0 ∷ 0 ∷ []
 
 pub invariant_of-result : goal.invariant_of-result
-invariant_of-result c = (copied_long c.copy_from_slice.new.self c.args.args.now four c.copy_from_slice.ensures.after c.if-args-gt-MOST_ARGUMENTS.false, (c.if-args-gt-MOST_ARGUMENTS.false, tt))
+invariant_of-result c =
+    record {
+      four = copied_long c.copy_from_slice.new.self c.args.args.now four c.copy_from_slice.ensures.after c.if-args-gt-MOST_ARGUMENTS.false;
+      few = c.if-args-gt-MOST_ARGUMENTS.false;
+    }
 
 pub returns : goal.returns
 returns c =
