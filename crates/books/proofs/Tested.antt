@@ -2,7 +2,7 @@
 use Rattle.std.proofs.Common.{◌≡◌, ℕ, zero, suc, ◌+◌, Bool, true, false, ◌&&◌, eqb, List, [], ◌∷◌, Some, None, Option, sym, refl, ap, ◌∙◌, subst, ap₂, arith}
 use Rattle.std.specs.List.{slice_get}
 use Rattle.std.specs.Str.{bytes_eq}
-use Rattle.std.proofs.lemmas.Bool.{and_parts, and_from, eqb_true, eq-eqb, ltb-true, lt-ltb}
+use Rattle.std.proofs.lemmas.Bool.{and_parts, and_from, eqb-true, eq-eqb, ltb-true, lt-ltb}
 use Rattle.terms.specs.declared.signature.Role.{Role}
 use Rattle.terms.specs.declared.signature.Role.TheVariants.{Constructor, Function, Operation}
 use Rattle.terms.specs.Terms.{Head, symbol, Term, var, con, fun, Terms, nil, ◌▸◌}
@@ -34,7 +34,7 @@ use Rattle.books.specs.Soundness.{same_term, same_terms, same_rule, goes_before,
 -- terms and rules
 mutual
   same_term_true : (t u : Term) → same_term t u ≡ true → t ≡ u
-  same_term_true (var x) (var y) e = ap var (eqb_true x y e)
+  same_term_true (var x) (var y) e = ap var (eqb-true x y e)
   same_term_true (var x) (con d us) e = absurd (zero_one (cc))
   same_term_true (var x) (fun g us) e = absurd (zero_one (cc))
   same_term_true (con c ts) (var y) e = absurd (zero_one (cc))
@@ -64,7 +64,7 @@ same_rule_true : (r q : Rule) → same_rule r q ≡ true → r ≡ q
 same_rule_true r q e =
     let a = and_parts (eqb r.function q.function) (same_terms r.left q.left && same_term r.right q.right) e in
     let b = and_parts (same_terms r.left q.left) (same_term r.right q.right) a.1 in
-    let f = eqb_true r.function q.function a.0 in
+    let f = eqb-true r.function q.function a.0 in
     let l = same_terms_true r.left q.left b.0 in
     let g = same_term_true r.right q.right b.1 in
     ap₂ (λ (x : ℕ) (ts : Terms). record { function = x; left = ts; right = r.right }) f l ∙ ap (λ (u : Term). record { function = q.function; left = q.left; right = u }) g
@@ -78,7 +78,7 @@ same_bytes_true : (p q : List ℕ) → bytes_eq p q ≡ true → p ≡ q
 same_bytes_true [] [] e = refl
 same_bytes_true [] (y ∷ q) e = absurd (zero_one (cc))
 same_bytes_true (x ∷ p) [] e = absurd (zero_one (cc))
-same_bytes_true (x ∷ p) (y ∷ q) e = let a = and_parts (eqb x y) (bytes_eq p q) e in ap₂ (λ (z : ℕ) (r : List ℕ). z ∷ r) (eqb_true x y a.0) (same_bytes_true p q a.1)
+same_bytes_true (x ∷ p) (y ∷ q) e = let a = and_parts (eqb x y) (bytes_eq p q) e in ap₂ (λ (z : ℕ) (r : List ℕ). z ∷ r) (eqb-true x y a.0) (same_bytes_true p q a.1)
 
 same_bytes_self : (p : List ℕ) → bytes_eq p p ≡ true
 same_bytes_self [] = refl
@@ -157,7 +157,7 @@ module _ (B : Book) (t : Trees) where
         tree = b.0;
         there = root_place (slice_get (roots_in t) f) a.1;
         stands = c.1;
-        under = eqb_true n.symbol f d.0;
+        under = eqb-true n.symbol f d.0;
         earlier = before_true a.0 (first_child n.kind) g.0;
         fixed = b.1;
         is = root_is B.rules (nodes_in t) n.kind b.0 g.1;

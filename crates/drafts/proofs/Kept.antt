@@ -1,8 +1,8 @@
 -- What is declared without fault leaves a draft sound.
-use Rattle.std.proofs.Common.{◌≡◌, ℕ, zero, suc, ◌+◌, ◌<◌, ◌≤◌, Bool, true, false, cond, not, ◌&&◌, ◌||◌, eqb, ltb, leb, ◌⊎◌, List, [], ◌∷◌, ◌++◌, map, length, Some, None, Option, sym, refl, ap, ◌∙◌, subst, inl, inr, append_assoc, append_nil, add-zero, arith}
+use Rattle.std.proofs.Common.{◌≡◌, ℕ, zero, suc, ◌+◌, ◌<◌, ◌≤◌, Bool, true, false, cond, not, ◌&&◌, ◌||◌, eqb, ltb, leb, ◌⊎◌, List, [], ◌∷◌, ◌++◌, map, length, Some, None, Option, sym, refl, ap, ◌∙◌, subst, inl, inr, append_assoc, append-nil, add-zero, arith}
 use Rattle.std.specs.Str.{bytes_eq}
-use Rattle.std.proofs.lemmas.List.{length-append, length_push, map_append}
-use Rattle.std.proofs.lemmas.Bool.{and_parts, and_from, or_parts, or_from, not-true, not-false, both_ways, cases_Bool, eqb_true, eqb-false, eq-eqb, ne_eqb, ltb-true, lt-ltb, leb-true, leb-false, le-leb, ltb-false}
+use Rattle.std.proofs.lemmas.List.{length-append, length_push, map-append}
+use Rattle.std.proofs.lemmas.Bool.{and_parts, and_from, or_parts, or_from, not-true, not-false, both_ways, cases_Bool, eqb-true, eqb-false, eq-eqb, ne_eqb, ltb-true, lt-ltb, leb-true, leb-false, le-leb, ltb-false}
 use Rattle.terms.specs.declared.signature.Role.TheVariants.{Constructor, Function}
 use Rattle.terms.specs.Names.{well_formed, find_name}
 use Rattle.terms.specs.Roots.{is_constructor}
@@ -30,7 +30,7 @@ no_rules (r ∷ rs) h = absurd (zero_one (cc))
 -- names that are the same
 eqb_swap : (a b : ℕ) → eqb a b ≡ eqb b a
 eqb_swap a b = elim (cases_Bool (eqb a b)) [
-  | inl h ↦ h ∙ sym (eq-eqb b a (sym (eqb_true a b h)))
+  | inl h ↦ h ∙ sym (eq-eqb b a (sym (eqb-true a b h)))
   | inr h ↦ h ∙ sym (ne_eqb b a (λ e. eqb-false a b h (sym e)))
 ]
 
@@ -46,7 +46,7 @@ same_equal [] (y ∷ n) h = absurd (both_ways false refl h)
 same_equal (x ∷ m) [] h = absurd (both_ways false refl h)
 same_equal (x ∷ m) (y ∷ n) h =
     let p = and_parts (eqb x y) (bytes_eq m n) h in
-    ap (λ z. z ∷ m) (eqb_true x y p.0) ∙ ap (λ (w : List ℕ). y ∷ w) (same_equal m n p.1)
+    ap (λ z. z ∷ m) (eqb-true x y p.0) ∙ ap (λ (w : List ℕ). y ∷ w) (same_equal m n p.1)
 
 -- a name is found in a list with one more in front
 pub found_cons : (m : List ℕ) (ms : List (List ℕ)) (n : List ℕ) → is_found (find_name (m ∷ ms) n) ≡ (bytes_eq m n || is_found (find_name ms n))
@@ -172,8 +172,8 @@ symbol_kept D d p h m k made pr few =
     let c = parts_of S D.promised (and_parts (contents_sound S D.promised) _ h).0 in
     let T = (with_symbol D d p).signature in
     let ns : List (List ℕ) = map (λ (y : Declaration). y.name) S.symbols in
-    let at-end : names T ≡ names S ++ (d.name ∷ []) = ap (λ (l : List (List ℕ)). S.sorts ++ l) (map_append (λ (y : Declaration). y.name) S.symbols (d ∷ [])) ∙ sym (append_assoc S.sorts ns (d.name ∷ [])) in
-    let fresh : distinct (names T) ≡ true = ap distinct at-end ∙ distinct_insert (names S) [] d.name (ap distinct (append_nil (names S)) ∙ c.apart) (ap (λ (l : List (List ℕ)). is_found (find_name l d.name)) (append_nil (names S)) ∙ m.free) in
+    let at-end : names T ≡ names S ++ (d.name ∷ []) = ap (λ (l : List (List ℕ)). S.sorts ++ l) (map-append (λ (y : Declaration). y.name) S.symbols (d ∷ [])) ∙ sym (append_assoc S.sorts ns (d.name ∷ [])) in
+    let fresh : distinct (names T) ≡ true = ap distinct at-end ∙ distinct_insert (names S) [] d.name (ap distinct (append-nil (names S)) ∙ c.apart) (ap (λ (l : List (List ℕ)). is_found (find_name l d.name)) (append-nil (names S)) ∙ m.free) in
     and_from (contents_sound T ps) (stand_in_turn T (in_turn 0 ps) D.rules)
     (sound_from T ps (record {
       apart = fresh;

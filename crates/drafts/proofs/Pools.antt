@@ -3,13 +3,13 @@ use Rattle.std.proofs.Common.{◌≡◌, ℕ, zero, suc, ◌+◌, ◌-◌, ◌<�
 use borrow.Rule.Slice.PartMut.{put_mid, mid_of, mid_len, same_len_mid}
 use Rattle.std.proofs.lemmas.List.{drop-take, take-take, drop_at, length-take, length-take-le, length-drop, take_more_set, map_push}
 use Rattle.std.proofs.lemmas.Slice.{take-put_mid_below, take-put_mid}
-use Rattle.std.proofs.lemmas.Bool.{and_parts, and_from, eqb_true, eq-eqb}
+use Rattle.std.proofs.lemmas.Bool.{and_parts, and_from, eqb-true, eq-eqb}
 use Rattle.drafts.specs.declared.span.Span.{Span}
 use Rattle.drafts.specs.Drafts.{Sides, sides, letters_in}
 use Rattle.drafts.specs.Views.{sides_of, in_a_row}
 
 pub row_ends : (n m : ℕ) (ss : List Span) → in_a_row n ss m ≡ true → n ≤ m
-row_ends n m [] h = let e = eqb_true n m h in omega arith
+row_ends n m [] h = let e = eqb-true n m h in omega arith
 row_ends n m (s ∷ ss) h =
     let p = and_parts (eqb s.start n) (in_a_row (n + (s.left + s.right)) ss m) h in
     let i = row_ends (n + (s.left + s.right)) m ss p.1 in
@@ -17,7 +17,7 @@ row_ends n m (s ∷ ss) h =
 
 pub row_push : (n m k : ℕ) (ss : List Span) (s : Span) → in_a_row n ss m ≡ true → s.start ≡ m → m + (s.left + s.right) ≡ k → in_a_row n (ss ++ (s ∷ [])) k ≡ true
 row_push n m k [] s h e f =
-    let q = eqb_true n m h in
+    let q = eqb-true n m h in
     and_from (eqb s.start n) (eqb (n + (s.left + s.right)) k) (eq-eqb s.start n (omega arith)) (eq-eqb (n + (s.left + s.right)) k (omega arith))
 row_push n m k (r ∷ ss) s h e f =
     let p = and_parts (eqb r.start n) (in_a_row (n + (r.left + r.right)) ss m) h in
@@ -28,10 +28,10 @@ length_part ls a b h = length-take-le a (drop b ls) (let d = length-drop b ls in
 
 -- the letters of all rules fill the pool up to its count
 pub row_letters : (ls : List ℕ) (n m : ℕ) (ss : List Span) → in_a_row n ss m ≡ true → m ≤ length ls → n + letters_in (map (sides_of ls) ss) ≡ m
-row_letters ls n m [] h l = let e = eqb_true n m h in omega arith
+row_letters ls n m [] h l = let e = eqb-true n m h in omega arith
 row_letters ls n m (s ∷ ss) h l =
     let p = and_parts (eqb s.start n) (in_a_row (n + (s.left + s.right)) ss m) h in
-    let e = eqb_true s.start n p.0 in
+    let e = eqb-true s.start n p.0 in
     let i = row_letters ls (n + (s.left + s.right)) m ss p.1 l in
     let k = row_ends (n + (s.left + s.right)) m ss p.1 in
     let a = length_part ls s.left s.start (omega arith) in
@@ -49,7 +49,7 @@ pub rules_same : (xs ys : List ℕ) (n m k : ℕ) (ss : List Span) → take m xs
 rules_same xs ys n m k [] e h = refl
 rules_same xs ys n m k (s ∷ ss) e h =
     let p = and_parts (eqb s.start n) (in_a_row (n + (s.left + s.right)) ss m) h in
-    let q = eqb_true s.start n p.0 in
+    let q = eqb-true s.start n p.0 in
     let i = row_ends (n + (s.left + s.right)) m ss p.1 in
     ap₂ (λ (r : Sides) (rs : List Sides). r ∷ rs)
     (ap₂ sides (part_same xs ys s.left s.start m e (omega arith)) (part_same xs ys s.right (s.start + s.left) m e (omega arith)))

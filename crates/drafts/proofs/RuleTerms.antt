@@ -1,9 +1,9 @@
 -- The two words of a rule without fault, as terms.
-use Rattle.std.proofs.Common.{◌≡◌, ℕ, zero, suc, ◌+◌, ◌^◌, ◌<◌, ◌≤◌, Bool, true, false, cond, not, ◌&&◌, ◌||◌, eqb, ◌⊎◌, List, [], ◌∷◌, ◌++◌, map, length, set, Some, None, Ok, Err, Option, Result, sym, refl, ap, ◌∙◌, subst, ap₂, inl, inr, append_assoc, append_nil, arith}
+use Rattle.std.proofs.Common.{◌≡◌, ℕ, zero, suc, ◌+◌, ◌^◌, ◌<◌, ◌≤◌, Bool, true, false, cond, not, ◌&&◌, ◌||◌, eqb, ◌⊎◌, List, [], ◌∷◌, ◌++◌, map, length, set, Some, None, Ok, Err, Option, Result, sym, refl, ap, ◌∙◌, subst, ap₂, inl, inr, append_assoc, append-nil, arith}
 use mathlib.Core.List.{Memᴰ}
 use Rattle.std.specs.List.{slice_get}
-use Rattle.std.proofs.lemmas.List.{length-set, map_append}
-use Rattle.std.proofs.lemmas.Bool.{and_parts, and_from, or_parts, or_from, eqb_true, eqb-false, eq-eqb, ne_eqb, cases_Bool, both_ways, not-true, not-false, cond-true, cond-false}
+use Rattle.std.proofs.lemmas.List.{length-set, map-append}
+use Rattle.std.proofs.lemmas.Bool.{and_parts, and_from, or_parts, or_from, eqb-true, eqb-false, eq-eqb, ne_eqb, cases_Bool, both_ways, not-true, not-false, cond-true, cond-false}
 use Rattle.terms.specs.declared.letter.Letter.{Letter}
 use Rattle.terms.specs.declared.letter.Letter.TheVariants.{Cell, Symbol, Variable}
 use Rattle.terms.specs.declared.signature.Role.{Role}
@@ -133,7 +133,7 @@ all_variables ts = names_of (all_occurrences ts)
 
 variables_more : (t : Term) (ts : Terms) → all_variables (t ▸ ts) ≡ variables t ++ all_variables ts
 variables_more t ts =
-    map_append (λ (o : Occurrence). o.name) (map (moved in_first) (occurrences t)) (map (moved in_later) (all_occurrences ts))
+    map-append (λ (o : Occurrence). o.name) (map (moved in_first) (occurrences t)) (map (moved in_later) (all_occurrences ts))
     ∙ ap₂ (λ (a b : List ℕ). a ++ b) (names_moved in_first (occurrences t)) (names_moved in_later (all_occurrences ts))
 
 -- membership
@@ -184,7 +184,7 @@ module _ (S : Signature) where
   mutual
     pub word_mem : (t : Term) (v : ℕ) → Fits S t → v < 8 → stands_in (letter_for v) (word t) ≡ true → Memᴰ v (variables t)
     word_mem (var x) v f h m = elim (or_either (eqb (letter_for v) (letter_for x)) false m) [
-      | inl e ↦ Memᴰ.head (let q = eqb_true (letter_for v) (letter_for x) e in let z : v ≡ x = omega arith in z)
+      | inl e ↦ Memᴰ.head (let q = eqb-true (letter_for v) (letter_for x) e in let z : v ≡ x = omega arith in z)
       | inr e ↦ absurd (both_ways false refl e)
     ]
     word_mem (con c ts) v f h m = words_mem ts v f.2 h (past (letter_for v) (number (head c)) (words ts) (other_letter v (number (head c)) h (con_not S c f.0)) m)
@@ -259,14 +259,14 @@ module _ (S : Signature) where
     once (fun g ts) u w f h = after_letter u w (number (call g)) (variables (fun g ts)) (words ts) (all_once ts (u ++ (number (call g) ∷ [])) w f.2 (skip u (words ts ++ w) (number (call g)) h))
 
     all_once : (ts : Terms) (u w : List ℕ) → AllFit S ts → first_again u (words ts ++ w) ≡ None → Once u w (all_variables ts) (words ts)
-    all_once nil u w f h = record { apart = tt; new = λ v m. elim m [ ]; onward_from = ap (λ (z : List ℕ). first_again z w) (append_nil u) ∙ h }
+    all_once nil u w f h = record { apart = tt; new = λ v m. elim m [ ]; onward_from = ap (λ (z : List ℕ). first_again z w) (append-nil u) ∙ h }
     all_once (t ▸ ts) u w f h =
         let a = once t u (words ts ++ w) f.0 (ap (first_again u) (sym (append_assoc (word t) (words ts) w)) ∙ h) in
         let b = all_once ts (u ++ word t) w f.1 a.onward_from in
         join t ts u w a b
 
   pub linear_word : (t : Term) → Fits S t → first_again [] (word t) ≡ None → Different (variables t)
-  linear_word t f h = (once t [] [] f (ap (first_again []) (append_nil (word t)) ∙ h)).apart
+  linear_word t f h = (once t [] [] f (ap (first_again []) (append-nil (word t)) ∙ h)).apart
 
 -- the sorts of variables
 nth_set_same : (vs : List (Option ℕ)) (v : ℕ) (o : Option ℕ) → v < length vs → slice_get (set vs v o) v ≡ Some o
@@ -319,7 +319,7 @@ module _ (S : Signature) where
   suits_due r j k h n q t =
       let a : suits S closed (number r) k ≡ true = ap (λ b. b || suits S closed (number r) k) (sym n) ∙ t in
       let b : eqb j k ≡ true = sym (ap (passes (λ i. eqb i k)) (ap (λ (o : Option Root). onward o (root_sort S closed)) (root_back S r h) ∙ q)) ∙ a in
-      sym (eqb_true j k b)
+      sym (eqb-true j k b)
 
   noted_none : (r : Root) (k : ℕ) (vs : List (Option ℕ)) → Stands S r → is_variable (number r) ≡ false → noted (letter_of (number r)) k vs ≡ vs
   noted_none r k vs h n = go (letter_of (number r)) n
@@ -386,7 +386,7 @@ module _ (S : Signature) where
 
   pub left_sorted : (t : Term) (k : ℕ) (es : List (Option ℕ)) → Fits S t → first_again [] (word t) ≡ None → left_sorts S (k ∷ []) none_known (word t) ≡ Ok es → Sorted S (given es) t k
   left_sorted t k es f n g =
-      (sorted_left t k [] [] [] none_known es f refl (ap (first_again []) (append_nil (word t)) ∙ n) (ap (left_sorts S (k ∷ []) none_known) (append_nil (word t)) ∙ g)).sorted
+      (sorted_left t k [] [] [] none_known es f refl (ap (first_again []) (append-nil (word t)) ∙ n) (ap (left_sorts S (k ∷ []) none_known) (append-nil (word t)) ∙ g)).sorted
 
 -- a letter that stands in a word is not one that the word has none of
 pub that_at : (p : ℕ → Bool) (x : ℕ) (w : List ℕ) → first_that p w ≡ None → stands_in x w ≡ true → p x ≡ false
@@ -394,7 +394,7 @@ that_at p x [] h s = absurd (both_ways false refl s)
 that_at p x (y ∷ w) h s =
     let a = that_cons p y w h in
     elim (or_either (eqb x y) (stands_in x w) s) [
-      | inl e ↦ ap p (eqb_true x y e) ∙ a.0
+      | inl e ↦ ap p (eqb-true x y e) ∙ a.0
       | inr e ↦ that_at p x w a.1 e
     ]
 

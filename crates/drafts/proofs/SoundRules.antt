@@ -1,8 +1,8 @@
 -- The rules of a sound draft are rules of a book.
-use Rattle.std.proofs.Common.{◌≡◌, ℕ, zero, suc, ◌+◌, ◌^◌, ◌<◌, ◌≤◌, Bool, true, false, cond, not, ◌&&◌, ◌||◌, eqb, ltb, List, [], ◌∷◌, ◌++◌, map, length, take, replicate, Some, None, Ok, Err, Option, Result, sym, refl, ap, ◌∙◌, subst, ap₂, append_nil, arith}
+use Rattle.std.proofs.Common.{◌≡◌, ℕ, zero, suc, ◌+◌, ◌^◌, ◌<◌, ◌≤◌, Bool, true, false, cond, not, ◌&&◌, ◌||◌, eqb, ltb, List, [], ◌∷◌, ◌++◌, map, length, take, replicate, Some, None, Ok, Err, Option, Result, sym, refl, ap, ◌∙◌, subst, ap₂, append-nil, arith}
 use mathlib.Core.List.{Memᴰ}
 use Rattle.std.specs.List.{slice_get}
-use Rattle.std.proofs.lemmas.Bool.{and_parts, eqb_true, both_ways, not-true, not-false}
+use Rattle.std.proofs.lemmas.Bool.{and_parts, eqb-true, both_ways, not-true, not-false}
 use Rattle.std.specs.Str.{bytes_eq}
 use Rattle.terms.specs.declared.signature.Role.{Role}
 use Rattle.terms.specs.declared.signature.Role.TheVariants.{Constructor, Function, Operation}
@@ -45,16 +45,16 @@ own_of (suc (suc (suc n))) h = refl
 
 -- a term that starts with the function's letter is a call of it
 call_term : (S : Signature) (t : Term) (f : ℕ) → Fits S t → FunctionAt S f → starts_with f (word t) ≡ true → (ts : Terms) × (t ≡ fun (own f) ts)
-call_term S (var v) f fit at e = let q = eqb_true (number (variable v)) (2 ^ 32 + f) e in let l = at.few in absurd (zero_one (omega arith))
-call_term S (con (cell n) ts) f fit at e = let q = eqb_true (number (head (cell n))) (2 ^ 32 + f) e in let l : n < 2 ^ 32 = fit.0 in absurd (zero_one (omega arith))
+call_term S (var v) f fit at e = let q = eqb-true (number (variable v)) (2 ^ 32 + f) e in let l = at.few in absurd (zero_one (omega arith))
+call_term S (con (cell n) ts) f fit at e = let q = eqb-true (number (head (cell n))) (2 ^ 32 + f) e in let l : n < 2 ^ 32 = fit.0 in absurd (zero_one (omega arith))
 call_term S (con (symbol s) ts) f fit at e =
-    let q = eqb_true (number (head (symbol s))) (2 ^ 32 + f) e in
+    let q = eqb-true (number (head (symbol s))) (2 ^ 32 + f) e in
     let i : s ≡ f = omega arith in
     let d = fit.0.0 in
     let same : d ≡ at.declaration = (let a = fit.0.1 in let b = at.there in let c = ap (slice_get S.symbols) i in cc) in
     absurd (both_ways (is_constructor d.role) (ap (λ (y : Declaration). is_constructor y.role) same ∙ ap is_constructor at.role) fit.0.2)
 call_term S (fun g ts) f fit at e =
-    let q = eqb_true (number (call g)) (2 ^ 32 + f) e in
+    let q = eqb-true (number (call g)) (2 ^ 32 + f) e in
     let i : fn_number g ≡ f = omega arith in
     (ts, ap (λ (h : Fn). fun h ts) (sym fit.0.1 ∙ ap fn_of i ∙ own_of f at.past))
 
@@ -130,7 +130,7 @@ find_rule S f q at h =
         let k : ℕ = fn_sort S (own f) in
         let l : Term = fun (own f) ts in
         let right : wrong_place (walk S (given n.known) (k ∷ []) ((word t ++ []) ++ [])) ≡ None =
-        ap (λ (w : List ℕ). wrong_place (walk S (given n.known) (k ∷ []) w)) (append_nil (word t ++ []) ∙ append_nil (word t) ∙ er) ∙ n.right_fine in
+        ap (λ (w : List ℕ). wrong_place (walk S (given n.known) (k ∷ []) w)) (append-nil (word t ++ []) ∙ append-nil (word t) ∙ er) ∙ n.right_fine in
         record {
           rule = record { function = f; left = ts; right = t };
           same = ap₂ sides el er;
@@ -155,9 +155,9 @@ find_rule S f q at h =
 
 -- a function in turn was declared as one
 role_from : (o : Role) (p : ℕ) → promise_fits o p ≡ true → 0 < p → o ≡ Function
-role_from Constructor p h l = let e = eqb_true p 0 h in absurd (omega arith)
+role_from Constructor p h l = let e = eqb-true p 0 h in absurd (omega arith)
 role_from Function p h l = refl
-role_from Operation p h l = let e = eqb_true p 0 h in absurd (omega arith)
+role_from Operation p h l = let e = eqb-true p 0 h in absurd (omega arith)
 
 record Promising (ds : List Declaration) (s f : ℕ) : Type 0 where
   place : ℕ
@@ -197,7 +197,7 @@ declared_alike a b h =
     let q = and_parts (same_role a.role b.role) _ p.1 in
     let r = and_parts (bytes_eq a.args b.args) (eqb a.sort b.sort) q.1 in
     ap₂ (λ (n : List ℕ) (o : Role). record { name = n; role = o; args = a.args; sort = a.sort }) (same_equal a.name b.name p.0) (same_roles a.role b.role q.0)
-    ∙ ap₂ (λ (ks : List ℕ) (k : ℕ). record { name = b.name; role = b.role; args = ks; sort = k }) (same_equal a.args b.args r.0) (eqb_true a.sort b.sort r.1)
+    ∙ ap₂ (λ (ks : List ℕ) (k : ℕ). record { name = b.name; role = b.role; args = ks; sort = k }) (same_equal a.args b.args r.0) (eqb-true a.sort b.sort r.1)
 
 pub first_same : (bs ds : List Declaration) (s : ℕ) (d : Declaration) → begins_with bs ds ≡ true → slice_get bs s ≡ Some d → slice_get ds s ≡ Some d
 first_same [] ds s d h e = absurd (zero_one (cc))

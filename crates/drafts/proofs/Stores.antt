@@ -1,7 +1,7 @@
 -- What the code's draft holds is what its view says.
 use Rattle.std.proofs.Common.{◌≡◌, ℕ, zero, suc, ◌+◌, ◌<◌, ◌≤◌, Bool, true, false, cond, eqb, List, [], ◌∷◌, map, length, get_or, take, Some, None, Option, sym, refl, ap, ◌∙◌, arith}
 use Rattle.std.specs.List.{slice_get}
-use Rattle.std.proofs.lemmas.Bool.{and_parts, eqb_true}
+use Rattle.std.proofs.lemmas.Bool.{and_parts, eqb-true}
 use Rattle.std.proofs.lemmas.List.{length-map, length-take-le}
 use Rattle.terms.specs.Names.{well_formed, name_of}
 use Rattle.terms.proofs.Letters.{zero_one}
@@ -74,7 +74,7 @@ module _ (d : Store) (i : ℕ) where
   in_row_at (r ∷ rs) zero m k j s h g l = absurd (omega arith)
   in_row_at (r ∷ rs) (suc n) m k zero s h g l =
       let p = and_parts (eqb r.start k) (in_a_row (k + (r.left + r.right)) (take n rs) m) h in
-      let e = eqb_true r.start k p.0 in
+      let e = eqb-true r.start k p.0 in
       let q = row_ends (k + (r.left + r.right)) m (take n rs) p.1 in
       omega arith
   in_row_at (r ∷ rs) (suc n) m k (suc j) s h g l =

@@ -1,6 +1,6 @@
 -- The open positions of a pattern: how a term that fits looks there, and how a graft opens one.
 use Rattle.std.proofs.Common.{◌≡◌, ℕ, zero, suc, ◌+◌, ◌≤◌, Bool, true, false, cond, ◌&&◌, List, [], ◌∷◌, ◌++◌, map, length, Some, None, sym, refl, ap, ◌∙◌, ap₂, append_assoc, arith, length-append}
-use mathlib.Core.List.{map_append, map-map, Memᴰ}
+use mathlib.Core.List.{map-append, map-map, Memᴰ}
 use lib.ListN.{length-map}
 use lib.Dec.{eqb-suc-suc}
 use Rattle.std.specs.Str.{bytes_eq}
@@ -24,7 +24,7 @@ abbrev positions_in : Terms → List (List ℕ)
 positions_in ts = map (λ (o : Occurrence). o.position) (all_occurrences ts)
 
 positions_more : (t : Term) (ts : Terms) → positions_in (t ▸ ts) ≡ map in_first (variable_positions t) ++ map in_later (positions_in ts)
-positions_more t ts = simp (map_append, map-map)
+positions_more t ts = simp (map-append, map-map)
 
 numbered : (ts : Terms) {p : List ℕ} → Memᴰ p (positions_in ts) → (i : ℕ) × (q : List ℕ) × (p ≡ suc i ∷ q)
 numbered ts m =
@@ -144,7 +144,7 @@ below_moved g p h i (suc m) = ap₂ ◌∷◌ (h i) (below_moved g p h (suc i) m
 opened_moved : (g : List ℕ → List ℕ) (p : List ℕ) → ((q : List ℕ) → bytes_eq (g q) (g p) ≡ bytes_eq q p) → ((i : ℕ) → g (p ++ (i ∷ [])) ≡ g p ++ (i ∷ []))
     → (qs : List (List ℕ)) (m : ℕ) → opened (map g qs) (g p) m ≡ map g (opened qs p m)
 opened_moved g p s h [] m = refl
-opened_moved g p s h (q ∷ qs) m = rw (s q, map_append, opened_moved g p s h qs m) (ap (λ (ps : List (List ℕ)). ps ++ map g (opened qs p m)) (go (bytes_eq q p)))
+opened_moved g p s h (q ∷ qs) m = rw (s q, map-append, opened_moved g p s h qs m) (ap (λ (ps : List (List ℕ)). ps ++ map g (opened qs p m)) (go (bytes_eq q p)))
   where
     go : (b : Bool) → cond b (below (g p) 1 m) (g q ∷ []) ≡ map g (cond b (below p 1 m) (q ∷ []))
     go true = sym (below_moved g p h 1 m)

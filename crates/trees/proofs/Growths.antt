@@ -1,9 +1,9 @@
 -- Trees grow node by node.
-use Rattle.std.proofs.Common.{◌≡◌, ℕ, zero, suc, ◌+◌, ◌-◌, ◌<◌, ◌≤◌, Bool, true, false, cond, ◌&&◌, List, [], ◌∷◌, ◌++◌, map, length, get_or, take, drop, Some, None, Option, sym, refl, ap, ◌∙◌, subst, ap₂, append_assoc, append_nil, arith}
+use Rattle.std.proofs.Common.{◌≡◌, ℕ, zero, suc, ◌+◌, ◌-◌, ◌<◌, ◌≤◌, Bool, true, false, cond, ◌&&◌, List, [], ◌∷◌, ◌++◌, map, length, get_or, take, drop, Some, None, Option, sym, refl, ap, ◌∙◌, subst, ap₂, append_assoc, append-nil, arith}
 use mathlib.Core.List.Memᴰ
 use mathlib.Core.List.{Memᴰ}
 use Rattle.std.specs.List.{slice_get}
-use Rattle.std.proofs.lemmas.List.{map_append, take_all, drop_all, take_more, drop_more, take-append-drop}
+use Rattle.std.proofs.lemmas.List.{map-append, take_all, drop_all, take_more, drop_more, take-append-drop}
 use Rattle.terms.specs.Terms.{Head, symbol}
 use Rattle.terms.specs.Options.{onward, mapped}
 use Rattle.terms.specs.Signatures.{Signature}
@@ -47,7 +47,7 @@ is_before (is_branch l) = linked_before l
 
 -- new symbols of two parts of a list
 pub new_heads_split : (before xs ys : List (Option ℕ)) → new_heads before (xs ++ ys) ≡ new_heads before xs ++ new_heads (before ++ xs) ys
-new_heads_split before [] ys = ap (λ (bs : List (Option ℕ)). new_heads bs ys) (sym (append_nil before))
+new_heads_split before [] ys = ap (λ (bs : List (Option ℕ)). new_heads bs ys) (sym (append-nil before))
 new_heads_split before (x ∷ xs) ys =
     ap (put (new_head before x)) (new_heads_split (before ++ (x ∷ [])) xs ys
     ∙ ap (λ (bs : List (Option ℕ)). new_heads (before ++ (x ∷ [])) xs ++ new_heads bs ys) (append_assoc before (x ∷ []) xs))
@@ -114,7 +114,7 @@ module _ (S : Signature) where
     linked = no_link;
     told = refl;
     more = [];
-    after = sym (append_nil (nodes_of a));
+    after = sym (append-nil (nodes_of a));
     within = omega arith;
   }
 
@@ -170,7 +170,7 @@ new_met hs j s rest e =
     let whole : new_heads [] hs ≡ new_heads [] (take j hs) ++ (s ∷ rest) =
     ap (new_heads []) (sym (take-append-drop j hs)) ∙ new_heads_split [] (take j hs) (drop j hs) ∙ ap (λ (xs : List ℕ). new_heads [] (take j hs) ++ xs) e in
     subst (λ (xs : List ℕ). Memᴰ (symbol s) (map symbol xs)) (sym whole)
-    (subst (Memᴰ (symbol s)) (sym (map_append symbol (new_heads [] (take j hs)) (s ∷ rest))) (Memᴰ.append_right (map symbol (new_heads [] (take j hs))) (Memᴰ.head refl)))
+    (subst (Memᴰ (symbol s)) (sym (map-append symbol (new_heads [] (take j hs)) (s ∷ rest))) (Memᴰ.append_right (map symbol (new_heads [] (take j hs))) (Memᴰ.head refl)))
 
 -- The children of a branch at p, from the place i on.
 module _ (B : Book) (ps : List (List ℕ)) (m : List Bool) (n : ℕ) (p : List ℕ) (hs : List (Option ℕ)) where
@@ -201,7 +201,7 @@ module _ (B : Book) (ps : List (List ℕ)) (m : List Bool) (n : ℕ) (p : List �
       → GrownTo i a b first complete → GrownTo (i - 1) a b first complete
   grown_skip i a b first complete l k e h =
       let z = heads_step hs i None l k e in
-      let o : owed i ≡ owed (i - 1) = ap (λ (xs : List ℕ). paid_under longest_side (n - 1) p left (map symbol xs)) (z.1 ∙ append_nil (new_heads [] (take (i - 1) hs))) in
+      let o : owed i ≡ owed (i - 1) = ap (λ (xs : List ℕ). paid_under longest_side (n - 1) p left (map symbol xs)) (z.1 ∙ append-nil (new_heads [] (take (i - 1) hs))) in
       subst (λ (xs : List ℕ). SoFar B.signature B.rules (under B.signature (n - 1) ps left p) (map symbol xs) (owed (i - 1)) (paid_under longest_side (n - 1) p left all) a b first complete) (sym z.0)
       (subst (λ (x : ℕ). SoFar B.signature B.rules (under B.signature (n - 1) ps left p) (done i) x (paid_under longest_side (n - 1) p left all) a b first complete) o h)
 
@@ -214,7 +214,7 @@ module _ (B : Book) (ps : List (List ℕ)) (m : List Bool) (n : ℕ) (p : List �
       let z = heads_step hs i (Some s) l k e in
       let q = paid_split longest_side (n - 1) p left (map symbol (new_heads [] (take (i - 1) hs))) (symbol s ∷ []) in
       let r : owed i ≡ paid_under longest_side (n - 1) p left (map symbol (new_heads [] (take (i - 1) hs)) ++ (symbol s ∷ [])) =
-      ap (λ (xs : List ℕ). paid_under longest_side (n - 1) p left (map symbol xs)) z.1 ∙ ap (paid_under longest_side (n - 1) p left) (map_append symbol (new_heads [] (take (i - 1) hs)) (s ∷ [])) in
+      ap (λ (xs : List ℕ). paid_under longest_side (n - 1) p left (map symbol xs)) z.1 ∙ ap (paid_under longest_side (n - 1) p left) (map-append symbol (new_heads [] (take (i - 1) hs)) (s ∷ [])) in
       omega arith
 
   pub symbol_met : (i s : ℕ) → 0 < i → i ≤ length hs → Some s ≡ new_head (take (i - 1) hs) (get_or hs (i - 1) None) → all ≡ map symbol (new_heads [] hs) → Memᴰ (symbol s) all

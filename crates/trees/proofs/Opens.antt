@@ -1,5 +1,5 @@
 -- Open positions in their array.
-use Rattle.std.proofs.Common.{◌≡◌, ℕ, zero, suc, ◌+◌, ◌-◌, ◌<◌, ◌≤◌, Bool, true, false, cond, List, [], ◌∷◌, ◌++◌, map, length, get_or, drop, sym, refl, ap, ◌∙◌, append_assoc, append_nil, add-one, arith}
+use Rattle.std.proofs.Common.{◌≡◌, ℕ, zero, suc, ◌+◌, ◌-◌, ◌<◌, ◌≤◌, Bool, true, false, cond, List, [], ◌∷◌, ◌++◌, map, length, get_or, drop, sym, refl, ap, ◌∙◌, append_assoc, append-nil, add-one, arith}
 use Rattle.std.specs.Str.{bytes_eq}
 use Rattle.std.proofs.lemmas.List.{length-append, at_drop_more}
 use Rattle.terms.proofs.Tables.{length_seen, getD_seen}
@@ -38,7 +38,7 @@ pushed_below ps qs os p i m h e f =
 
 -- all arguments below are pushed
 pub all_below : (os qs : List (List ℕ)) (p : List ℕ) (i m : ℕ) → m ≤ i → os ++ below p (suc i) (m - i) ≡ qs → os ≡ qs
-all_below os qs p i m h e = sym (append_nil os) ∙ ap (λ (zs : List (List ℕ)). os ++ zs) (sym (below_none p (suc i) (m - i) (omega arith))) ∙ e
+all_below os qs p i m h e = sym (append-nil os) ∙ ap (λ (zs : List (List ℕ)). os ++ zs) (sym (below_none p (suc i) (m - i) (omega arith))) ∙ e
 
 -- what is pushed has room
 pub room_below : (os qs : List (List ℕ)) (p : List ℕ) (i m : ℕ) → i < m → os ++ below p (suc i) (m - i) ≡ qs ++ below p 1 m → length os < length qs + m

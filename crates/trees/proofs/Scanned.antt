@@ -4,7 +4,7 @@ use mathlib.Core.Bool.{or_assoc}
 use Rattle.std.specs.List.{slice_get}
 use Rattle.std.proofs.lemmas.List.{at_drop_more, at_drop_all, take_more, take_more_set, map_more}
 use Rattle.std.proofs.lemmas.Option.{slice_get_past}
-use Rattle.std.proofs.lemmas.Bool.{cond-false, eq-eqb, ne_eqb, eqb_true, cases_lt, le-ltb, lt-leb, and_left, or_cases, or_parts}
+use Rattle.std.proofs.lemmas.Bool.{cond-false, eq-eqb, ne_eqb, eqb-true, cases_lt, le-ltb, lt-leb, and_left, or_cases, or_parts}
 use Rattle.std.proofs.lemmas.Bool.Decides.{same_from_decides, Decides-eqb, Decides-like}
 use Rattle.terms.specs.declared.letter.Letter.{Letter}
 use Rattle.terms.specs.declared.letter.Letter.TheVariants.{Symbol}
@@ -157,7 +157,7 @@ module _ (q : Head → Bool) where
   met_fails s (None ∷ hs) m e = met_fails s hs m e
   met_fails s (Some z ∷ hs) m e =
       let p = or_parts (q (symbol z)) (some_of (there hs)) e in
-      elim (or_cases (eqb s z) (is_met s hs) m) [ inl h ↦ ap (λ (n : ℕ). q (symbol n)) (eqb_true s z h) ∙ p.0 | inr h ↦ met_fails s hs h p.1 ]
+      elim (or_cases (eqb s z) (is_met s hs) m) [ inl h ↦ ap (λ (n : ℕ). q (symbol n)) (eqb-true s z h) ∙ p.0 | inr h ↦ met_fails s hs h p.1 ]
 
   -- the first of the places is one of the earlier ones for what follows
   some_later : (before : List (Option ℕ)) (h : Option ℕ) (t n : Bool) → (some_of (there (before ++ (h ∷ []))) || t) ≡ (some_of (there (before ++ (h ∷ []))) || n)

@@ -1,7 +1,7 @@
 -- Children are found along their links.
 use Rattle.std.proofs.Common.{◌≡◌, ℕ, zero, suc, ◌+◌, ◌-◌, ◌<◌, ◌≤◌, Bool, true, false, cond, ◌||◌, eqb, List, [], ◌∷◌, map, length, get_or, take, is_some, Some, None, Option, sym, refl, ap, ◌∙◌, subst, arith}
 use Rattle.std.specs.List.{slice_get}
-use Rattle.std.proofs.lemmas.Bool.{eqb_true, cond-true, cond-false}
+use Rattle.std.proofs.lemmas.Bool.{eqb-true, cond-true, cond-false}
 use Rattle.terms.specs.Terms.{symbol}
 use Rattle.terms.specs.Options.{onward}
 use Rattle.terms.proofs.Letters.{zero_one}
@@ -51,7 +51,7 @@ module _ (ns : List Node) (s : ℕ) where
       go : (y : Bool) → eqb s n.symbol ≡ y → IsChild rs ns s (child_for s ts) (seek (k - 1) ns n.next s) → IsChild rs ns s (cond (eqb s n.symbol) (Some t) (child_for s ts)) (seek k ns (Some i) s)
       go true q ih =
           subst (λ (x : Bool). IsChild rs ns s (cond x (Some t) (child_for s ts)) (seek k ns (Some i) s)) (sym q)
-          (i, n, seek_here k i (omega arith) e q, e, sym (eqb_true s n.symbol q), h)
+          (i, n, seek_here k i (omega arith) e q, e, sym (eqb-true s n.symbol q), h)
       go false q ih =
           subst (λ (x : Bool). IsChild rs ns s (cond x (Some t) (child_for s ts)) (seek k ns (Some i) s)) (sym q)
           (subst (IsChild rs ns s (child_for s ts)) (sym (seek_on k i (omega arith) e q)) ih)

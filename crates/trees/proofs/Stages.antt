@@ -1,5 +1,5 @@
 -- What holds wherever a tree is grown, and what its growth comes to.
-use Rattle.std.proofs.Common.{◌≡◌, ℕ, zero, suc, ◌+◌, ◌-◌, ◌<◌, ◌≤◌, Bool, true, ◌&&◌, List, [], ◌∷◌, ◌++◌, map, length, take, drop, Some, None, Option, sym, refl, ap, ◌∙◌, subst, ap₂, append_assoc, append_nil, arith}
+use Rattle.std.proofs.Common.{◌≡◌, ℕ, zero, suc, ◌+◌, ◌-◌, ◌<◌, ◌≤◌, Bool, true, ◌&&◌, List, [], ◌∷◌, ◌++◌, map, length, take, drop, Some, None, Option, sym, refl, ap, ◌∙◌, subst, ap₂, append_assoc, append-nil, arith}
 use mathlib.Core.List.{Memᴰ}
 use Rattle.std.specs.List.{slice_get}
 use Rattle.terms.specs.Terms.{Head, symbol}
@@ -54,7 +54,7 @@ module _ (B : Book) (short : (f : ℕ) → NoLonger B f longest_side) (n : ℕ) 
 
   -- nothing is added
   pub none_added : (a : Store) → Added a a (cost n rs)
-  none_added a = record { more = []; after = sym (append_nil (nodes_of a)); fewer = (let w = within_stage.pays in omega arith) }
+  none_added a = record { more = []; after = sym (append-nil (nodes_of a)); fewer = (let w = within_stage.pays in omega arith) }
 
 -- a shared position is short enough to go further
 pub shared_short : (B : Book) (short : (f : ℕ) → NoLonger B f longest_side) (n : ℕ) (ps : List (List ℕ)) (rs : List Rule) (stage : AtStage B n ps rs) (p : List ℕ) (c : Head)

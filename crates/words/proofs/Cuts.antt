@@ -1,5 +1,5 @@
 -- Parts of terms are parts of words.
-use Rattle.std.proofs.Common.{◌≡◌, ℕ, zero, suc, ◌+◌, ◌<◌, ◌≤◌, Bool, true, false, cond, ltb, List, [], ◌∷◌, ◌++◌, length, take, drop, Some, None, Option, sym, refl, ap, ◌∙◌, subst, ap₂, ⊎_elim, append_assoc, append_nil, add-zero, add-one, arith}
+use Rattle.std.proofs.Common.{◌≡◌, ℕ, zero, suc, ◌+◌, ◌<◌, ◌≤◌, Bool, true, false, cond, ltb, List, [], ◌∷◌, ◌++◌, length, take, drop, Some, None, Option, sym, refl, ap, ◌∙◌, subst, ap₂, ⊎_elim, append_assoc, append-nil, add-zero, add-one, arith}
 use Rattle.std.proofs.lemmas.List.{drop-drop, drop_at, take_at, length-append}
 use Rattle.std.proofs.lemmas.Bool.{cond-true, cond-false, lt-ltb, le-ltb, cases_lt}
 use Rattle.words.specs.declared.part.Part.{Part}
@@ -67,7 +67,7 @@ module _ (S : Signature) where
   here : (t : Term) → Fits S t → (u : Term) → Some t ≡ Some u → (graft t [] ≡ λ s. s) → Cut S t [] u
   here t f u e g =
       let q : t ≡ u = cc in
-      subst (Cut S t []) q (record { before = []; after = []; is_cut = sym (append_nil (word t)); is_grafted = λ s. ap (λ (k : Term → Term). word (k s)) g ∙ sym (append_nil (word s)); is_placed = λ w. refl; fits = f })
+      subst (Cut S t []) q (record { before = []; after = []; is_cut = sym (append-nil (word t)); is_grafted = λ s. ap (λ (k : Term → Term). word (k s)) g ∙ sym (append-nil (word s)); is_placed = λ w. refl; fits = f })
 
   -- below a root: what both kinds of root share
   module _ (r : Root) (ts : Terms) (h : Stands S r) (e : count ts ≡ length (root_args S r)) (p : List ℕ) where
@@ -164,14 +164,14 @@ module _ (S : Signature) where
   no_part_from p w a = ap (λ (q : Option ℕ). onward q (λ m. mapped (λ l. record { start = m; len = l }) (part_end S (drop m w)))) a
 
   cuts : (t : Term) (p : List ℕ) (o : Option Term) → Fits S t → part t p ≡ o → Cuts t p (word t) o (part_at S p (word t))
-  cuts t p None f e = no_part_from p (word t) (ap (place S p) (sym (append_nil (word t))) ∙ no_cut t p f e [])
+  cuts t p None f e = no_part_from p (word t) (ap (place S p) (sym (append-nil (word t))) ∙ no_cut t p f e [])
   cuts t p (Some u) f e =
       let c = cut t p u f e in
       let b : List ℕ = c.before in
       let a : List ℕ = c.after in
       let n : ℕ = length b in
       let m : ℕ = length (word u) in
-      let pl : place S p (word t) ≡ Some n = ap (place S p) (sym (append_nil (word t))) ∙ c.is_placed [] in
+      let pl : place S p (word t) ≡ Some n = ap (place S p) (sym (append-nil (word t))) ∙ c.is_placed [] in
       let d : drop n (word t) ≡ word u ++ a = ap (drop n) c.is_cut ∙ drop_at b (word u ++ a) n refl in
       let tk : take n (word t) ≡ b = ap (take n) c.is_cut ∙ take_at b (word u ++ a) n refl in
       let dr : drop (n + m) (word t) ≡ a = sym (drop-drop m n (word t)) ∙ ap (drop m) d ∙ drop_at (word u) a m refl in (

@@ -1,5 +1,5 @@
 -- Where a part ends: by the finding itself, by counting, and on the word of a term.
-use Rattle.std.proofs.Common.{◌≡◌, ℕ, zero, suc, ◌+◌, ◌-◌, ◌<◌, ◌≤◌, List, [], ◌∷◌, ◌++◌, length, drop, IfSome, Some, None, Option, sym, refl, ap, ◌∙◌, subst, append_assoc, append_nil, add-zero, add_assoc, suc-add, zero-add, add-one, one-add, arith}
+use Rattle.std.proofs.Common.{◌≡◌, ℕ, zero, suc, ◌+◌, ◌-◌, ◌<◌, ◌≤◌, List, [], ◌∷◌, ◌++◌, length, drop, IfSome, Some, None, Option, sym, refl, ap, ◌∙◌, subst, append_assoc, append-nil, add-zero, add_assoc, suc-add, zero-add, add-one, one-add, arith}
 use Rattle.std.proofs.lemmas.List.{drop-drop, length-append}
 use Rattle.terms.specs.Terms.{Term, var, con, fun, Terms, nil, ◌▸◌, count}
 use Rattle.terms.specs.Options.{onward, more, ahead, and_then}
@@ -163,7 +163,7 @@ module _ (S : Signature) where
       sole_term : (ts : Terms) (v : List ℕ) → AllFit S ts → count ts ≡ 1 → w ≡ words ts ++ v → length (words ts) ≡ n → Begins S w n
       sole_term nil v f c e l = absurd (zero_one c)
       sole_term (t ▸ nil) v f c e l =
-          let z : word t ++ [] ≡ word t = append_nil (word t) in
+          let z : word t ++ [] ≡ word t = append-nil (word t) in
           (t, v, f.0, e ∙ ap (λ (u : List ℕ). u ++ v) z, ap length (sym z) ∙ l)
       sole_term (t ▸ u ▸ ts) v f c e l = absurd (zero_one (omega arith))
 

@@ -1,5 +1,5 @@
 -- A word has no fault exactly when it is the word of a closed term of some sort.
-use Rattle.std.proofs.Common.{◌≡◌, ℕ, suc, ◌≤◌, Bool, true, false, cond, ◌||◌, eqb, ltb, ◌↔◌, List, [], ◌∷◌, ◌++◌, length, Some, None, Option, sym, refl, ap, ◌∙◌, subst, ap₂, append_nil, arith}
+use Rattle.std.proofs.Common.{◌≡◌, ℕ, suc, ◌≤◌, Bool, true, false, cond, ◌||◌, eqb, ltb, ◌↔◌, List, [], ◌∷◌, ◌++◌, length, Some, None, Option, sym, refl, ap, ◌∙◌, subst, ap₂, append-nil, arith}
 use Rattle.std.proofs.lemmas.List.{length-append, nil_from_length}
 use Rattle.std.proofs.lemmas.Bool.{ltb-false, le-ltb, ne_eqb, or_parts, or_from, cond-false}
 use Rattle.words.specs.declared.fault.WordFault.{WordFault}
@@ -48,12 +48,12 @@ module _ (S : Signature) where
       let b = ((length_in_front S w).0 a.0).0 a.1 in
       let l = ap length b.3 ∙ length-append (word b.0) b.1 in
       let z : length b.1 ≡ 0 = (let m = b.4 in let n = a.2 in omega arith) in
-      (b.0, sym (append_nil (word b.0)) ∙ ap (λ (v : List ℕ). word b.0 ++ v) (sym (nil_from_length b.1 z)) ∙ sym b.3, b.2)
+      (b.0, sym (append-nil (word b.0)) ∙ ap (λ (v : List ℕ). word b.0 ++ v) (sym (nil_from_length b.1 z)) ∙ sym b.3, b.2)
 
   no_end : (t : Term) → Fits S t → not_whole S (word t) ≡ None
   no_end t f =
       let n : ℕ = length (word t) in
-      let e : part_end S (word t) ≡ Some n = ap (part_end S) (sym (append_nil (word t))) ∙ part_ends S t [] f in
+      let e : part_end S (word t) ≡ Some n = ap (part_end S) (sym (append-nil (word t))) ∙ part_ends S t [] f in
       ap (past_end n) e ∙ cond-false (ltb n n) _ _ (le-ltb n n (omega arith))
 
   pub tells_whole : (w : List ℕ) → TellsWhole S w (not_whole S w)
@@ -64,7 +64,7 @@ module _ (S : Signature) where
       → more (wrong_place (walk S closed (due_after (args_of S (number r)) []) (words ts))) ≡ None → AllSorted S closed ts (root_args S r)
   sorted_arguments r ts s n f h =
       (sorted_words S closed ts (root_args S r) [] [] f n
-      (ap (λ (v : List ℕ). wrong_place (walk S closed (root_args S r ++ []) v)) (append_nil (words ts))
+      (ap (λ (v : List ℕ). wrong_place (walk S closed (root_args S r ++ []) v)) (append-nil (words ts))
       ∙ ap (λ (o : Option (List ℕ)). wrong_place (walk S closed (due_after o []) (words ts))) (sym (args_back S r s))
       ∙ more_none (wrong_place (walk S closed (due_after (args_of S (number r)) []) (words ts))) h)).0
 
@@ -72,7 +72,7 @@ module _ (S : Signature) where
       → more (wrong_place (walk S closed (due_after (args_of S (number r)) []) (words ts))) ≡ None
   no_wrong_argument r ts s f h =
       ap (λ (o : Option (List ℕ)). more (wrong_place (walk S closed (due_after o []) (words ts)))) (args_back S r s)
-      ∙ ap (λ (v : List ℕ). more (wrong_place (walk S closed (root_args S r ++ []) v))) (sym (append_nil (words ts)))
+      ∙ ap (λ (v : List ℕ). more (wrong_place (walk S closed (root_args S r ++ []) v))) (sym (append-nil (words ts)))
       ∙ ap (λ r. more (wrong_place r)) (words_walk S closed ts (root_args S r) [] [] f h)
 
   sorted : (t : Term) → Fits S t → Closed t → wrong_argument S (word t) ≡ None → (k : ℕ) × Sorted S closed t k

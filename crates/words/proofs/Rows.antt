@@ -1,5 +1,5 @@
 -- `read` and `word` undo each other.
-use Rattle.std.proofs.Common.{◌≡◌, ℕ, zero, suc, ◌+◌, ◌≤◌, Bool, true, false, cond, leb, List, [], ◌∷◌, ◌++◌, length, Some, None, Option, sym, refl, ap, ◌∙◌, subst, ap₂, append_assoc, append_nil, arith}
+use Rattle.std.proofs.Common.{◌≡◌, ℕ, zero, suc, ◌+◌, ◌≤◌, Bool, true, false, cond, leb, List, [], ◌∷◌, ◌++◌, length, Some, None, Option, sym, refl, ap, ◌∙◌, subst, ap₂, append_assoc, append-nil, arith}
 use Rattle.std.proofs.lemmas.Bool.{leb-true, le-leb, cond-true}
 use Rattle.terms.specs.Terms.{Term, var, con, fun, Terms, nil, ◌▸◌, count}
 use Rattle.terms.specs.Options.{onward}
@@ -89,7 +89,7 @@ module _ (S : Signature) where
         twice (Some us) = refl
 
   read_word : (t : Term) → Fits S t → read S (word t) ≡ Some t
-  read_word t h = ap (λ (w : List ℕ). read S w) (sym (append_nil (word t))) ∙ ap (λ (o : Option Terms). onward o sole) (row_word t [] h)
+  read_word t h = ap (λ (w : List ℕ). read S w) (sym (append-nil (word t))) ∙ ap (λ (o : Option Terms). onward o sole) (row_word t [] h)
 
   fit_front : (n : ℕ) (us : Terms) → AllFit S us → AllFit S (front n us)
   fit_front zero us h = tt
@@ -152,7 +152,7 @@ module _ (S : Signature) where
       go (Some (u ▸ nil)) e g =
           let q : u ≡ t = cc in
           let i = words_row w (u ▸ nil) e in
-          subst (λ (v : Term). (word v ≡ w) × Fits S v) q (sym (append_nil (word u)) ∙ i.0, i.1.0)
+          subst (λ (v : Term). (word v ≡ w) × Fits S v) q (sym (append-nil (word u)) ∙ i.0, i.1.0)
       go (Some (u ▸ v ▸ ts)) e g = absurd (zero_one (cc))
 
 pub reads_back : (S : Signature) (w : List ℕ) → ReadsBack S w

@@ -1,7 +1,7 @@
 -- The walk along a word with the sorts that are due: the steps of its loop, and what it says of a term.
-use Rattle.std.proofs.Common.{◌≡◌, ℕ, zero, suc, ◌+◌, ◌<◌, ◌≤◌, Bool, true, false, cond, eqb, ◌↔◌, List, [], ◌∷◌, ◌++◌, length, get_or, drop, Some, None, Ok, Err, Option, Result, sym, refl, ap, ◌∙◌, subst, append_assoc, append_nil, add-zero, add_assoc, zero-add, add-one, arith}
+use Rattle.std.proofs.Common.{◌≡◌, ℕ, zero, suc, ◌+◌, ◌<◌, ◌≤◌, Bool, true, false, cond, eqb, ◌↔◌, List, [], ◌∷◌, ◌++◌, length, get_or, drop, Some, None, Ok, Err, Option, Result, sym, refl, ap, ◌∙◌, subst, append_assoc, append-nil, add-zero, add_assoc, zero-add, add-one, arith}
 use Rattle.std.proofs.lemmas.List.{drop_more, drop-drop, drop_all, length-append}
-use Rattle.std.proofs.lemmas.Bool.{cond-true, cond-false, both_ways, eqb_true, eq-eqb}
+use Rattle.std.proofs.lemmas.Bool.{cond-true, cond-false, both_ways, eqb-true, eq-eqb}
 use Rattle.terms.specs.Terms.{Term, var, con, fun, Terms, nil, ◌▸◌, count}
 use Rattle.terms.specs.Options.{passes, mapped, onward}
 use Rattle.terms.specs.Signatures.{Signature}
@@ -119,7 +119,7 @@ module _ (S : Signature) (e : Environment) where
   -- what a letter that suits a sort says of its root
   is_sort : (o : Option ℕ) (k : ℕ) → (passes (λ j. eqb j k) o ≡ true) ↔ (o ≡ Some k)
   is_sort None k = ((λ h. absurd (both_ways false refl h)), λ h. absurd (zero_one (cc)))
-  is_sort (Some j) k = ((λ h. ap Some (eqb_true j k h)), λ h. eq-eqb j k (cc))
+  is_sort (Some j) k = ((λ h. ap Some (eqb-true j k h)), λ h. eq-eqb j k (cc))
 
   suits_root : (r : Root) (k : ℕ) → Stands S r → (suits S e (number r) k ≡ true) ↔ (root_sort S e r ≡ Some k)
   suits_root r k h =
@@ -184,6 +184,6 @@ module _ (S : Signature) (e : Environment) where
 
   pub finds_sort : (k : ℕ) (w : List ℕ) → FindsSort S e k w (walk S e (k ∷ []) w)
   finds_sort k w t f i = (
-    (λ q. (sorted_word t k [] [] f (ap (λ (v : List ℕ). wrong_place (walk S e (k ∷ []) v)) (append_nil (word t) ∙ i) ∙ ap wrong_place q)).0),
-    λ h. ap (walk S e (k ∷ [])) (sym i ∙ sym (append_nil (word t))) ∙ word_walk t k [] [] f h ∙ ap Ok (add-zero (length (word t)) ∙ ap length i),
+    (λ q. (sorted_word t k [] [] f (ap (λ (v : List ℕ). wrong_place (walk S e (k ∷ []) v)) (append-nil (word t) ∙ i) ∙ ap wrong_place q)).0),
+    λ h. ap (walk S e (k ∷ [])) (sym i ∙ sym (append-nil (word t))) ∙ word_walk t k [] [] f h ∙ ap Ok (add-zero (length (word t)) ∙ ap length i),
   )

@@ -7,7 +7,7 @@ use Rattle.meters.proofs.sum_of.Goals as goal
 pub loop-n-preserved : goal.loop-n-preserved
 loop-n-preserved c =
     let more = sum_by_more (λ x. x) c.args.pulses.now c.loop-n.n-index 0 c.loop-n-test.true in
-    (omega (arith, more), omega (arith, c.type-inv.pulses c.loop-n.n-index))
+    (omega (arith, more), omega (arith, c.type_inv.pulses c.loop-n.n-index))
 
 pub returns : goal.returns
 returns c = c.loop-n.invariant.0 ∙ ap sum (take_all c.loop-n.n-index c.args.pulses.now c.loop-n-test.false)

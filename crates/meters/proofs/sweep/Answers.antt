@@ -1,5 +1,5 @@
 -- One more panel moves from those to come to those that stand. Assumes nothing.
-use Rattle.std.proofs.Common.{◌≡◌, ◌<◌, ◌≤◌, true, leb, List, [], ◌++◌, length, take, drop, sym, ap, ◌∙◌, subst, append_nil, arith}
+use Rattle.std.proofs.Common.{◌≡◌, ◌<◌, ◌≤◌, true, leb, List, [], ◌++◌, length, take, drop, sym, ap, ◌∙◌, subst, append-nil, arith}
 use Rattle.std.proofs.lemmas.List.{take_all, drop_all, take_more_set, drop-set-lt, take-append-drop}
 use Rattle.std.proofs.lemmas.Bool.{le-leb, cond-true}
 use Rattle.meters.specs.declared.Panel.{Panel}
@@ -21,7 +21,7 @@ returns c =
     let i : c.loop-i.i ≡ n = omega (arith, c.loop-i-test.false, c.loop-i.auto.i-end) in
     let fit : leb n (length c.args.panels.now) ≡ true = le-leb n (length c.args.panels.now) c.if-pulses-panels.false in
     let front : take n c.loop-i.panels ≡ swept c.args.start c.args.pulses.now =
-    sym (append_nil (take n c.loop-i.panels)) ∙ ap (λ k. take k c.loop-i.panels ++ []) (sym i)
+    sym (append-nil (take n c.loop-i.panels)) ∙ ap (λ k. take k c.loop-i.panels ++ []) (sym i)
     ∙ ap (λ ns. take c.loop-i.i c.loop-i.panels ++ swept c.loop-i.panel ns) (sym (drop_all c.loop-i.i c.args.pulses.now c.loop-i-test.false)) ∙ c.loop-i.invariant.0 in
     record {
       fits = sym fit;

@@ -29,7 +29,7 @@ returns-in_err-symbol_at c =
     let l : i < length m = omega (arith, c.loop-i-test.true, c.rule_count-i-end.ensures.value) in
     let k : i < length R = omega (arith, c.loop-i-test.true, c.rule_count-i-end.ensures.value) in
     let no = shared_stop p m R (draft_cells d p) i c.loop-i.heads true false c.loop-i.invariant l k (sym c.if-remain-i.true) refl c.in_err-symbol_at.ensures in
-    c.from-residual.ensures ∙ sym (ap (λ (b : Bool). cond b (Some (heads_at p m R)) None) no)
+    c.from_residual.ensures ∙ sym (ap (λ (b : Bool). cond b (Some (heads_at p m R)) None) no)
 
 pub loop-i-preserved : goal.loop-i-preserved
 loop-i-preserved c =

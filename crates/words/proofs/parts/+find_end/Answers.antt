@@ -28,8 +28,8 @@ returns-in_err-end t c =
     let S = view c.args.signature.now in
     let W = c.args.word.now in
     let some : 0 < length W = search rules in
-    let r = c.from-residual.result in
-    let e = c.from-residual.ensures ∙ sym (ap (part_end S) (first_rest W 0 some) ∙ part_end_none S (get_or W 0 0) (between 1 (length W) W) (sym c.in_err-end.ensures)) in
+    let r = c.from_residual.result in
+    let e = c.from_residual.ensures ∙ sym (ap (part_end S) (first_rest W 0 some) ∙ part_end_none S (get_or W 0 0) (between 1 (length W) W) (sym c.in_err-end.ensures)) in
     record { within = within_of S W r e; value = e }
 
 pub loop-init : goal.loop-init
@@ -50,8 +50,8 @@ returns-in_err-at t c =
     let some : 0 < length W = search rules in
     let h = c.in_err-at.ensures.value ∙ ap (part_end S) (take_rest R c.loop.at) in
     let l : 0 < k - c.loop.counter = omega (arith, c.loop-test.true) in
-    let r = c.from-residual-in_err-at.result in
-    let e = c.from-residual-in_err-at.ensures ∙ sym (whole S W k None some c.in_ok-end.ensures (c.loop.invariant.1 ∙ stopped S (k - c.loop.counter) c.loop.at R l h)) in
+    let r = c.from_residual-in_err-at.result in
+    let e = c.from_residual-in_err-at.ensures ∙ sym (whole S W k None some c.in_ok-end.ensures (c.loop.invariant.1 ∙ stopped S (k - c.loop.counter) c.loop.at R l h)) in
     record { within = within_of S W r e; value = e }
 
 pub loop-preserved : goal.loop-preserved

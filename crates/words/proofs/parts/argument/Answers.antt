@@ -27,7 +27,7 @@ returns-in_err-at c =
     let h = c.in_err-at.ensures.value ∙ ap (part_end S) (take_rest R at) in
     let k : 0 < i - c.loop.counter = omega (arith, c.loop-test.true) in
     let v = whole S W i c.in_ok-arity.field-0 None some c.in_ok-arity.ensures c.if-number-eq0.false (omega (arith, c.if-branch.false)) (c.loop.invariant.1 ∙ stopped S (i - c.loop.counter) at R k h) in
-    rw c.from-residual-in_err-at.ensures (record { within = tt; value = sym v })
+    rw c.from_residual-in_err-at.ensures (record { within = tt; value = sym v })
 
 pub loop-preserved : goal.loop-preserved
 loop-preserved c =

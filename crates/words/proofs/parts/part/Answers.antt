@@ -11,7 +11,7 @@ returns-in_err-start c =
     let S = view c.args.signature.now in
     let w = c.args.word.now in
     let p = c.args.path.now in
-    let e = c.from-residual.ensures ∙ sym (no_part_from S p w (sym c.in_err-start.ensures.value)) in
+    let e = c.from_residual.ensures ∙ sym (no_part_from S p w (sym c.in_err-start.ensures.value)) in
     record { value = e; cuts = subst (CutsPart S p w) (sym e) (cuts_part S p w) }
 
 pub returns-in_err-len : goal.returns-in_err-len
@@ -21,7 +21,7 @@ returns-in_err-len c =
     let p = c.args.path.now in
     let n = c.in_ok-start.start in
     let h = c.in_err-len.ensures.value ∙ ap (part_end S) (take_rest w n) in
-    let e = c.from-residual-in_err-len.ensures ∙ sym (part_from S p w n None (sym c.in_ok-start.ensures.value) (sym h)) in
+    let e = c.from_residual-in_err-len.ensures ∙ sym (part_from S p w n None (sym c.in_ok-start.ensures.value) (sym h)) in
     record { value = e; cuts = subst (CutsPart S p w) (sym e) (cuts_part S p w) }
 
 pub returns : goal.returns

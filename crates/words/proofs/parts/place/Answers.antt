@@ -14,7 +14,7 @@ returns-in_err-at c =
     let at = c.loop-number.at in
     let h = c.in_err-at.ensures.value ∙ ap (argument_place S (get_or p i 0)) (take_rest W at) in
     let v = reached_stop S p W i at c.loop-number.invariant.1 c.loop-number-test.true h in
-    rw c.from-residual.ensures (record { within = tt; value = sym v })
+    rw c.from_residual.ensures (record { within = tt; value = sym v })
 
 pub loop-number-preserved : goal.loop-number-preserved
 loop-number-preserved c =

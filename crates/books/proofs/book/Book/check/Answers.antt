@@ -17,7 +17,7 @@ pub returns-in_err-trees : goal.returns-in_err-trees
 returns-in_err-trees c =
     let d = c.args.draft.now in
     let a = c.args.self.now in
-    let p = err_from_is_err_and c.from-residual.result c.from-residual.ensures.1 in
+    let p = err_from_is_err_and c.from_residual.result c.from_residual.ensures.1 in
     let e = c.in_err-trees.field-0.0 in
     let r = p.1 ∙ ap Err p.2 in
     let f = c.in_err-trees.ensures.fault in

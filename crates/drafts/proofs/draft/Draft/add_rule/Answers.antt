@@ -12,7 +12,7 @@ pub returns-in_err-rule_verdict : goal.returns-in_err-rule_verdict
 returns-in_err-rule_verdict c =
     let a = c.args.self.now in
     let q = sides c.args.left.now c.args.right.now in
-    let p = err_from_is_err_and c.from-residual.result c.from-residual.ensures.1 in
+    let p = err_from_is_err_and c.from_residual.result c.from_residual.ensures.1 in
     not_done a (rule_refusal (seen a) q) (with_rule (seen a) q) (length (seen a).rules) _ _ (refused (rule_refusal (seen a) q) (tt {0}) _ c.in_err-rule_verdict.ensures) (p.1 ∙ ap Err p.2)
 
 pub slice_bounds-copy_from_slice-end : goal.slice_bounds-copy_from_slice-end

@@ -11,7 +11,7 @@ pub returns-in_err-new : goal.returns-in_err-new
 returns-in_err-new c =
     let D = seen c.args.self.now in
     let n = c.args.name.now in
-    let p = err_from_is_err_and c.from-residual.result c.from-residual.ensures.1 in
+    let p = err_from_is_err_and c.from_residual.result c.from_residual.ensures.1 in
     ap named (p.1 ∙ ap Err p.2) ∙ refused_first (symbol_fault D n c.args.args.now c.args.sort) _ n n _ c.in_err-new.ensures
 
 pub returns-then-sort-lt2 : goal.returns-then-sort-lt2

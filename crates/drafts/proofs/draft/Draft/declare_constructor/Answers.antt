@@ -12,7 +12,7 @@ pub returns-in_err-new : goal.returns-in_err-new
 returns-in_err-new c =
     let a = c.args.self.now in
     let o = constructor_fault (seen a) c.args.name.now c.args.args.now c.args.sort in
-    let r = err_from_is_err_and c.from-residual.result c.from-residual.ensures.1 in
+    let r = err_from_is_err_and c.from_residual.result c.from_residual.ensures.1 in
     not_done a o _ (length (seen a).signature.symbols) _ _ (refused o c.args.name.now _ c.in_err-new.ensures) (r.1 ∙ ap Err r.2)
 
 pub narrowed-sorts-requires : goal.narrowed-sorts-requires

@@ -11,7 +11,7 @@ pub returns-in_err-new : goal.returns-in_err-new
 returns-in_err-new c =
     let a = c.args.self.now in
     let n = c.args.name.now in
-    let p = err_from_is_err_and c.from-residual.result c.from-residual.ensures.1 in
+    let p = err_from_is_err_and c.from_residual.result c.from_residual.ensures.1 in
     not_done a (sort_fault (seen a) n) (with_sort (seen a) n) (length (seen a).signature.sorts) _ _ (refused (sort_fault (seen a) n) n _ c.in_err-new.ensures) (p.1 ∙ ap Err p.2)
 
 pub invariant_of-self : goal.invariant_of-self

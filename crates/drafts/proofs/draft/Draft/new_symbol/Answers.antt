@@ -10,7 +10,7 @@ pub returns-in_err-new : goal.returns-in_err-new
 returns-in_err-new c =
     let D = seen c.args.self.now in
     let n = c.args.name.now in
-    let p = err_from_is_err_and c.from-residual.result c.from-residual.ensures.1 in
+    let p = err_from_is_err_and c.from_residual.result c.from_residual.ensures.1 in
     ap named (p.1 ∙ ap Err p.2) ∙ refused_first (name_fault D n) (sorts_fault D c.args.args.now c.args.sort) n n _ c.in_err-new.ensures
 
 pub returns-in_err-check_sorts : goal.returns-in_err-check_sorts
@@ -18,7 +18,7 @@ returns-in_err-check_sorts c =
     let D = seen c.args.self.now in
     let n = c.args.name.now in
     let o = sorts_fault D c.args.args.now c.args.sort in
-    let p = err_from_is_err_and c.from-residual-in_err-check_sorts.result c.from-residual-in_err-check_sorts.ensures.1 in
+    let p = err_from_is_err_and c.from_residual-in_err-check_sorts.result c.from_residual-in_err-check_sorts.ensures.1 in
     ap named (p.1 ∙ ap Err p.2) ∙ again o tt n _ c.in_err-check_sorts.ensures ∙ passed_first (name_fault D n) o n _ n c.in_ok-new.ensures
 
 pub returns : goal.returns

@@ -14,7 +14,7 @@ returns-in_err-word_faults c =
     let D = seen c.args.self.now in
     let q = sides c.args.left.now c.args.right.now in
     let f = c.in-Some.function in
-    let p = err_from_is_err_and c.from-residual.result c.from-residual.ensures.1 in
+    let p = err_from_is_err_and c.from_residual.result c.from_residual.ensures.1 in
     p.1 ∙ ap Err p.2
     ∙ refused_first (rule_fault D.signature f q) _ (tt {0}) (tt {0}) _ (refused_first (word_faults D.signature q) (shape_faults D.signature f q) (tt {0}) (tt {0}) _ c.in_err-word_faults.ensures)
     ∙ ap (λ (o : Option ℕ). verdict (fault_under D o q) tt) c.in-Some.ensures
@@ -33,7 +33,7 @@ returns-in_err-shape_faults c =
     let D = seen c.args.self.now in
     let q = sides c.args.left.now c.args.right.now in
     let f = c.in-Some.function in
-    let p = err_from_is_err_and c.from-residual-in_err-shape_faults.result c.from-residual-in_err-shape_faults.ensures.1 in
+    let p = err_from_is_err_and c.from_residual-in_err-shape_faults.result c.from_residual-in_err-shape_faults.ensures.1 in
     p.1 ∙ ap Err p.2
     ∙ refused_first (rule_fault D.signature f q) _ (tt {0}) (tt {0}) _ (c.in_err-shape_faults.ensures ∙ passed_first (word_faults D.signature q) (shape_faults D.signature f q) (tt {0}) _ (tt {0}) c.in_ok-word_faults.ensures)
     ∙ ap (λ (o : Option ℕ). verdict (fault_under D o q) tt) c.in-Some.ensures

@@ -1,4 +1,4 @@
-use Rattle.std.proofs.Common.{◌≡◌, ℕ, ◌+◌, ◌≤◌, true, false, List, [], ◌∷◌, ◌++◌, length, get_or, sym, ap, ◌∙◌, append_nil, arith}
+use Rattle.std.proofs.Common.{◌≡◌, ℕ, ◌+◌, ◌≤◌, true, false, List, [], ◌∷◌, ◌++◌, length, get_or, sym, ap, ◌∙◌, append-nil, arith}
 use Rattle.std.proofs.lemmas.List.{at_drop_all}
 use Rattle.rewriting.specs.Growing.{below, opened}
 use Rattle.trees.specs.Views.{steps_of}
@@ -39,6 +39,6 @@ returns c =
     let o = c.args.self.now in
     let p = steps_of c.args.path.now in
     let l = length_open o in
-    sym (append_nil (open_of c.loop-i.open))
+    sym (append-nil (open_of c.loop-i.open))
     ∙ ap (λ (zs : List (List ℕ)). open_of c.loop-i.open ++ zs) (sym (at_drop_all (λ (qs : List (List ℕ)). opened qs p c.args.arity) (open_of o) c.loop-i.i (omega (arith, c.loop-i-test.false))))
     ∙ c.loop-i.invariant

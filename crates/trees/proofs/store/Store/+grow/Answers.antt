@@ -44,7 +44,7 @@ returns-in_err-shared t c =
     let f = shared_none B.rules m (first_shared ps rs) c.in_err-shared.ensures in
     record {
       added = none_added B (draft_short d) c.args.fuel ps rs c.requires.stage c.args.self.now;
-      grown = none_grown B.signature B.rules (nodes_of c.args.self.now) (grow B.signature c.args.fuel ps rs) c.from-residual.result (grows_none B.signature c.args.fuel ps rs e f) c.from-residual.ensures;
+      grown = none_grown B.signature B.rules (nodes_of c.args.self.now) (grow B.signature c.args.fuel ps rs) c.from_residual.result (grows_none B.signature c.args.fuel ps rs e f) c.from_residual.ensures;
     }
 
 pub loop-i-init : goal.loop-i-init
@@ -147,8 +147,8 @@ returns-in_err-child t c =
     let rs = chosen m B.rules in
     record {
       added = child_added B ps m n (steps_of s.path) s.heads i c.args.self.now c.loop-i.self c.grow.new.self c.loop-i.children c.loop-i.complete (cost n rs) (cost (n - 1) (chosen c.with_head-rules.result B.rules)) (paid_all d ps m n s b) c.loop-i.invariant room z.added;
-      grown = none_grown B.signature B.rules (nodes_of c.grow.new.self) (grow B.signature n ps rs) c.from-residual-in_err-child.result
-          (child_missing B ps m n (steps_of s.path) s.heads (symbol x) (fuel_left B (draft_short d) n ps rs c.requires.stage) b.none b.shared (is_new d ps m n s b i x l k new) missing) c.from-residual-in_err-child.ensures;
+      grown = none_grown B.signature B.rules (nodes_of c.grow.new.self) (grow B.signature n ps rs) c.from_residual-in_err-child.result
+          (child_missing B ps m n (steps_of s.path) s.heads (symbol x) (fuel_left B (draft_short d) n ps rs c.requires.stage) b.none b.shared (is_new d ps m n s b i x l k new) missing) c.from_residual-in_err-child.ensures;
     }
 
 pub push-requires : goal.push-requires

@@ -13,13 +13,13 @@ pub returns-in_err-place : goal.returns-in_err-place
 returns-in_err-place c =
     let a = c.args.self.now in
     let k = a.count - c.loop.counter in
-    c.from-residual.ensures ∙ sym (seek_none (nodes_of a) c.args.symbol k) ∙ ap (λ (o : Option ℕ). seek k (nodes_of a) o c.args.symbol) (sym c.in_err-place.was) ∙ c.loop.invariant ∙ ap (λ (k : ℕ). seek k (nodes_of a) c.args.first c.args.symbol) (sym (length_nodes a))
+    c.from_residual.ensures ∙ sym (seek_none (nodes_of a) c.args.symbol k) ∙ ap (λ (o : Option ℕ). seek k (nodes_of a) o c.args.symbol) (sym c.in_err-place.was) ∙ c.loop.invariant ∙ ap (λ (k : ℕ). seek k (nodes_of a) c.args.first c.args.symbol) (sym (length_nodes a))
 
 pub returns-in_err-node : goal.returns-in_err-node
 returns-in_err-node c =
     let a = c.args.self.now in
     let k = a.count - c.loop.counter in
-    c.from-residual-in_err-node.ensures ∙ sym (seek_lost (nodes_of a) c.args.symbol k c.in_ok-place.place (sym c.in_err-node.ensures))
+    c.from_residual-in_err-node.ensures ∙ sym (seek_lost (nodes_of a) c.args.symbol k c.in_ok-place.place (sym c.in_err-node.ensures))
     ∙ ap (λ (o : Option ℕ). seek k (nodes_of a) o c.args.symbol) (sym c.in_ok-place.was) ∙ c.loop.invariant ∙ ap (λ (k : ℕ). seek k (nodes_of a) c.args.first c.args.symbol) (sym (length_nodes a))
 
 pub returns-then-node-symbol : goal.returns-then-node-symbol
