@@ -8,4 +8,4 @@ tested : (r : Bool) (xs ys : List ℕ) → Decides r (xs ≡ ys) → r ≡ bytes
 tested r xs ys d = search (rules, bytes_eq-Decides)
 
 pub returns : goal.returns
-returns c = tested c.eq.result _ _ (slice_eq-Decides Decides-eqb _ _ _ c.eq.ensures)
+returns c = tested c.eq.result c.args.name.now c.args.word.now (slice_eq-Decides Decides-eqb _ _ _ c.eq.ensures)
