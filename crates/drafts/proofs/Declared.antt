@@ -14,10 +14,10 @@ use Rattle.drafts.specs.declared.span.Span.{Span}
 use Rattle.drafts.specs.Drafts.{Sides, Draft}
 use Rattle.drafts.specs.Contents.{name_fault, sorts_full, sort_fault, constructor_fault, function_fault, all_below, with_sort, with_symbol}
 use Rattle.drafts.specs.Views.{sides_of, drafted}
-use Rattle.drafts.specs.Soundness.{is_sound}
+use Rattle.drafts.specs.Soundness.{is_sound, three_operations}
 use Rattle.drafts.specs.Stores.{seen, verdict}
 use Rattle.drafts.proofs.Verdicts.{passed}
-use Rattle.drafts.proofs.Kept.{none_either, none_test, sort_kept, KnownSorts, NewConstructor, new_constructor, constructor_kept, NewFunction, new_function, function_kept}
+use Rattle.drafts.proofs.Kept.{none_either, none_test, sort_kept, operations_push, KnownSorts, NewConstructor, new_constructor, constructor_kept, NewFunction, new_function, function_kept}
 use Rattle.drafts.proofs.Lists.{below_wider}
 
 -- a draft over another signature
@@ -30,6 +30,7 @@ pub record SortAdded (a : Store) (n : List ℕ) (r : Option ℕ) (g : Table) : T
   pub number : r ≡ Some (length (seen a).signature.sorts)
   pub after : drafted g a.promised a.letters (take a.rule_count a.rules) ≡ with_sort (seen a) n
   pub sound : is_sound (drafted g a.promised a.letters (take a.rule_count a.rules)) ≡ true
+  pub operations : three_operations (view g) ≡ true
 
 pub add_new_sort : (a : Store) (n m : List ℕ) (r : Option ℕ) (g : Table) → Ok m ≡ verdict (sort_fault (seen a) n) n → Changed (add_sort m (view a.signature)) r a.signature g → SortAdded a n r g
 add_new_sort a n m r g h c =
@@ -40,7 +41,7 @@ add_new_sort a n m r g h c =
     let e = ap (λ (l : List ℕ). add_sort l D.signature) p.1 ∙ sort_added n D.signature (leb-false 16 (length D.signature.sorts) t.0) in
     let v = c.becomes ∙ ap (λ (z : Change). z.after) e in
     let w = ap (over a.promised D.rules) v in
-    record { fine = p.0; number = c.answered ∙ ap (λ (z : Change). z.answer) e; after = w; sound = ap is_sound w ∙ sort_kept D n a.sound p.0 }
+    record { fine = p.0; number = c.answered ∙ ap (λ (z : Change). z.answer) e; after = w; sound = ap is_sound w ∙ sort_kept D n a.sound p.0; operations = ap three_operations v ∙ a.operations }
 
 -- two declarations with the same parts
 pub declared_same : (o : Role) (m n ls ks : List ℕ) (k : ℕ) → m ≡ n → ls ≡ ks → ◌≡◌ {A = Declaration} (record { name = m; role = o; args = ls; sort = k }) (record { name = n; role = o; args = ks; sort = k })
@@ -94,6 +95,7 @@ pub record ConstructorAdded (a : Store) (n ks : List ℕ) (k : ℕ) (r : Option 
   pub new : NewConstructor (seen a) n ks k
   pub added : SymbolAdded a (record { name = n; role = Constructor; args = ks; sort = k }) 0 r g
   pub sound : (j : ℕ) → r ≡ Some j → is_sound (drafted g (set a.promised j 0) a.letters (take a.rule_count a.rules)) ≡ true
+  pub operations : (j : ℕ) → r ≡ Some j → three_operations (view g) ≡ true
 
 pub add_new_constructor : (a : Store) (n m ks bs : List ℕ) (k : ℕ) (r : Option ℕ) (g : Table) → Ok m ≡ verdict (constructor_fault (seen a) n ks k) n → take (length ks) bs ≡ ks → length a.promised ≡ 96
     → Changed (add_symbol (record { name = m; role = Constructor; args = take (length ks - 0) bs; sort = k }) (view a.signature)) r a.signature g → ConstructorAdded a n ks k r g
@@ -101,13 +103,21 @@ add_new_constructor a n m ks bs k r g v f l c =
     let q = passed (constructor_fault (seen a) n ks k) n m v in
     let w = new_constructor (seen a) n ks k q.0 in
     let s = add_new_symbol a Constructor n m ks bs k 0 r g q.1 f w.left w.sorts.four l c in
-    record { fine = q.0; new = w; added = s; sound = λ j i. ap is_sound (s.after j i) ∙ constructor_kept (seen a) n ks k a.sound w }
+    let d : Declaration = record { name = n; role = Constructor; args = ks; sort = k } in
+    record {
+      fine = q.0;
+      new = w;
+      added = s;
+      sound = λ j i. ap is_sound (s.after j i) ∙ constructor_kept (seen a) n ks k a.sound w;
+      operations = λ j i. ap (λ (E : Draft). three_operations E.signature) (s.after j i) ∙ operations_push 3 (seen a).signature.symbols d a.operations refl;
+    }
 
 pub record FunctionAdded (a : Store) (n ks : List ℕ) (k p : ℕ) (r : Option ℕ) (g : Table) : Type 0 where
   pub fine : function_fault (seen a) n ks k p ≡ None
   pub new : NewFunction (seen a) n ks k p
   pub added : SymbolAdded a (record { name = n; role = Function; args = ks; sort = k }) p r g
   pub sound : (j : ℕ) → r ≡ Some j → is_sound (drafted g (set a.promised j p) a.letters (take a.rule_count a.rules)) ≡ true
+  pub operations : (j : ℕ) → r ≡ Some j → three_operations (view g) ≡ true
 
 pub add_new_function : (a : Store) (n m ks bs : List ℕ) (k p : ℕ) (r : Option ℕ) (g : Table) → Ok m ≡ verdict (function_fault (seen a) n ks k p) n → take (length ks) bs ≡ ks → length a.promised ≡ 96
     → Changed (add_symbol (record { name = m; role = Function; args = take (length ks - 0) bs; sort = k }) (view a.signature)) r a.signature g → FunctionAdded a n ks k p r g
@@ -115,7 +125,14 @@ add_new_function a n m ks bs k p r g v f l c =
     let q = passed (function_fault (seen a) n ks k p) n m v in
     let w = new_function (seen a) n ks k p q.0 in
     let s = add_new_symbol a Function n m ks bs k p r g q.1 f w.left w.sorts.four l c in
-    record { fine = q.0; new = w; added = s; sound = λ j i. ap is_sound (s.after j i) ∙ function_kept (seen a) n ks k p a.sound w }
+    let d : Declaration = record { name = n; role = Function; args = ks; sort = k } in
+    record {
+      fine = q.0;
+      new = w;
+      added = s;
+      sound = λ j i. ap is_sound (s.after j i) ∙ function_kept (seen a) n ks k p a.sound w;
+      operations = λ j i. ap (λ (E : Draft). three_operations E.signature) (s.after j i) ∙ operations_push 3 (seen a).signature.symbols d a.operations refl;
+    }
 
 -- sorts of a draft are small numbers
 pub small_sorts : (a : Store) (ks : List ℕ) (k : ℕ) → KnownSorts (seen a) ks k → (k < 16) × (all_below 16 ks ≡ true)

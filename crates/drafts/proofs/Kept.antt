@@ -1,9 +1,9 @@
 -- What is declared without fault leaves a draft sound.
-use Rattle.std.proofs.Common.{◌≡◌, ℕ, zero, suc, ◌+◌, ◌<◌, ◌≤◌, Bool, true, false, cond, not, ◌&&◌, ◌||◌, eqb, ltb, leb, ◌⊎◌, List, [], ◌∷◌, ◌++◌, map, length, Some, None, Option, sym, refl, ap, ◌∙◌, subst, inl, inr, append_assoc, append-nil, add-zero, arith}
+use Rattle.std.proofs.Common.{◌≡◌, ℕ, zero, suc, ◌+◌, ◌<◌, ◌≤◌, Bool, true, false, cond, not, ◌&&◌, ◌||◌, eqb, ltb, leb, ◌⊎◌, List, [], ◌∷◌, ◌++◌, map, length, drop, Some, None, Option, sym, refl, ap, ◌∙◌, subst, inl, inr, append_assoc, append-nil, add-zero, arith}
 use Rattle.std.specs.Str.{bytes_eq}
 use Rattle.std.proofs.lemmas.List.{length-append, length_push, map-append}
 use Rattle.std.proofs.lemmas.Bool.{and_parts, and_from, or_parts, or_from, not-true, not-false, both_ways, cases_Bool, eqb-true, eqb-false, eq-eqb, ne_eqb, ltb-true, lt-ltb, leb-true, leb-false, le-leb, ltb-false}
-use Rattle.terms.specs.declared.signature.Role.TheVariants.{Constructor, Function}
+use Rattle.terms.specs.declared.signature.Role.TheVariants.{Constructor, Function, Operation}
 use Rattle.terms.specs.Names.{well_formed, find_name}
 use Rattle.terms.specs.Roots.{is_constructor}
 use Rattle.terms.specs.Signatures.{Declaration, Signature, built_in}
@@ -11,7 +11,7 @@ use Rattle.terms.proofs.Letters.{zero_one}
 use Rattle.drafts.specs.declared.fault.ContentFault.{ContentFault}
 use Rattle.drafts.specs.Drafts.{Sides, Draft, in_turn, total, most_rules}
 use Rattle.drafts.specs.Contents.{or_else, names, is_found, is_taken, is_keyword, some_rule, all_below, name_fault, sorts_fault, sorts_full, symbols_full, sort_fault, symbol_fault, constructor_fault, function_fault, with_sort, with_symbol}
-use Rattle.drafts.specs.Soundness.{distinct, sorts_below, no_number_made, begins_with, same_declaration, promise_fits, promises_fit, stand_in_turn, contents_sound, is_sound}
+use Rattle.drafts.specs.Soundness.{distinct, sorts_below, no_number_made, begins_with, same_role, same_declaration, no_operation, promise_fits, promises_fit, stand_in_turn, contents_sound, is_sound}
 use Rattle.drafts.proofs.Lists.{found_append, below_wider, total_push}
 
 -- no refusal, in parts
@@ -93,6 +93,19 @@ begins_push (b ∷ bs) [] d h = absurd (both_ways false refl h)
 begins_push (b ∷ bs) (y ∷ ds) d h =
     let p = and_parts (same_declaration y b) (begins_with bs ds) h in
     and_from (same_declaration y b) (begins_with bs (ds ++ (d ∷ []))) p.0 (begins_push bs ds d p.1)
+
+-- no operation past a place, with one declaration more
+pub operations_push : (n : ℕ) (ds : List Declaration) (d : Declaration) → no_operation (drop n ds) ≡ true → not (same_role d.role Operation) ≡ true → no_operation (drop n (ds ++ (d ∷ []))) ≡ true
+operations_push zero [] d h e = and_from (not (same_role d.role Operation)) true e refl
+operations_push zero (y ∷ ds) d h e =
+    let p = and_parts (not (same_role y.role Operation)) (no_operation ds) h in
+    and_from (not (same_role y.role Operation)) (no_operation (ds ++ (d ∷ []))) p.0 (operations_push zero ds d p.1 e)
+operations_push (suc n) [] d h e = none n
+  where
+    none : (m : ℕ) → no_operation (drop m []) ≡ true
+    none zero = refl
+    none (suc m) = refl
+operations_push (suc n) (y ∷ ds) d h e = operations_push n ds d h e
 
 promises_push : (ds : List Declaration) (ps : List ℕ) (d : Declaration) (p : ℕ) → promises_fit ds ps ≡ true → promise_fits d.role p ≡ true → promises_fit (ds ++ (d ∷ [])) (ps ++ (p ∷ [])) ≡ true
 promises_push [] [] d p h e = and_from (promise_fits d.role p) true e refl

@@ -38,6 +38,16 @@ row_letters ls n m (s ∷ ss) h l =
     let b = length_part ls s.right (s.start + s.left) (omega arith) in
     omega arith
 
+-- however long the pool is, they are no more than its count
+pub row_room : (ls : List ℕ) (n m : ℕ) (ss : List Span) → in_a_row n ss m ≡ true → n + letters_in (map (sides_of ls) ss) ≤ m
+row_room ls n m [] h = let e = eqb-true n m h in omega arith
+row_room ls n m (s ∷ ss) h =
+    let p = and_parts (eqb s.start n) (in_a_row (n + (s.left + s.right)) ss m) h in
+    let i = row_room ls (n + (s.left + s.right)) m ss p.1 in
+    let a = length-take s.left (drop s.start ls) in
+    let b = length-take s.right (drop (s.start + s.left) ls) in
+    omega arith
+
 -- parts below a place up to which two lists are the same
 part_same : (xs ys : List ℕ) (a b n : ℕ) → take n xs ≡ take n ys → b + a ≤ n → take a (drop b xs) ≡ take a (drop b ys)
 part_same xs ys a b n e h =

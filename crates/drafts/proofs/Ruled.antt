@@ -2,7 +2,7 @@
 use Rattle.std.proofs.Common.{◌≡◌, ℕ, ◌+◌, ◌-◌, ◌<◌, ◌≤◌, Bool, true, false, cond, ◌||◌, eqb, ltb, List, [], ◌∷◌, ◌++◌, map, length, take, drop, set, Some, None, Ok, Err, Option, sym, refl, ap, ◌∙◌, subst, ap₂, add_assoc, arith}
 use borrow.Rule.Slice.PartMut.{put_mid}
 use Rattle.std.proofs.lemmas.List.{take_more_set, map_push, length-take}
-use Rattle.std.proofs.lemmas.Bool.{and_parts, ltb-false, or_parts}
+use Rattle.std.proofs.lemmas.Bool.{and_parts, ltb-false, eqb-false, or_parts}
 use Rattle.terms.specs.Signatures.{Signature}
 use Rattle.terms.proofs.Letters.{zero_one}
 use Rattle.terms.proofs.Tables.{length_symbols}
@@ -37,11 +37,15 @@ accepted D q h = go (awaited D) refl h
         let b = none_test (no_room D.rules q) _ None a.1 in
         record { function = f; turn = e; fine = a.0; room = ltb-false most_letters (letters_in D.rules + (length q.left + length q.right)) b.0 }
 
--- a side that is not too long
+-- a side that is neither empty nor too long
+pub good_length : (w : List ℕ) → bad_length w ≡ false → (0 < length w) × (length w ≤ longest_side)
+good_length w h =
+    let a = or_parts (eqb (length w) 0) (ltb longest_side (length w)) h in
+    let n = eqb-false (length w) 0 a.0 in
+    (omega arith, ltb-false longest_side (length w) a.1)
+
 pub short_left : (S : Signature) (q : Sides) → word_faults S q ≡ None → length q.left ≤ longest_side
-short_left S q h =
-    let a = none_test (bad_length q.left) _ _ h in
-    ltb-false longest_side (length q.left) (or_parts (eqb (length q.left) 0) (ltb longest_side (length q.left)) a.0).1
+short_left S q h = (good_length q.left (none_test (bad_length q.left) _ _ h).0).1
 
 -- the letters of all rules are counted
 pub letters_counted : (a : Store) → length a.letters ≡ 1024 → letters_in (seen a).rules ≡ a.letter_count

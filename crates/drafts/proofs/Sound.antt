@@ -1,5 +1,5 @@
 -- Every draft is sound.
-use Rattle.std.proofs.Common.{◌≡◌, ℕ, zero, suc, ◌<◌, ◌≤◌, Bool, true, false, not, ◌&&◌, ◌||◌, eqb, ltb, ◌⊎◌, List, [], ◌∷◌, ◌++◌, map, length, take, Some, None, Option, sym, refl, ap, ◌∙◌, subst, inl, inr, arith}
+use Rattle.std.proofs.Common.{◌≡◌, ℕ, zero, suc, ◌<◌, ◌≤◌, Bool, true, false, not, ◌&&◌, ◌||◌, eqb, ltb, ◌⊎◌, List, [], ◌∷◌, ◌++◌, map, length, take, drop, Some, None, Option, sym, refl, ap, ◌∙◌, subst, ap₂, inl, inr, arith}
 use mathlib.Core.List.{Memᴰ}
 use Rattle.std.specs.List.{slice_get}
 use Rattle.std.specs.Str.{bytes_eq}
@@ -7,6 +7,8 @@ use Rattle.std.proofs.lemmas.Bool.{and_parts, and_from, eq-eqb, both_ways, not-t
 use Rattle.terms.specs.declared.name.Name.{Name}
 use Rattle.terms.specs.declared.signature.Entry.{Entry}
 use Rattle.terms.specs.declared.signature.Signature.{Signature as Table}
+use Rattle.terms.specs.declared.signature.Role.{Role}
+use Rattle.terms.specs.declared.signature.Role.TheVariants.{Operation}
 use Rattle.terms.specs.Terms.{symbol}
 use Rattle.terms.specs.Names.{well_formed, find_name}
 use Rattle.terms.specs.Signatures.{Declaration, Signature, built_in}
@@ -19,13 +21,16 @@ use Rattle.rewriting.specs.Rules.{Different, Proper}
 use Rattle.drafts.specs.declared.draft.Draft.{Draft as Store}
 use Rattle.drafts.specs.Drafts.{Draft, in_turn}
 use Rattle.drafts.specs.Contents.{names, is_found, all_below}
-use Rattle.drafts.specs.Soundness.{distinct, sorts_below, no_number_made, contents_sound, stand_in_turn}
+use Rattle.drafts.specs.Soundness.{distinct, sorts_below, no_number_made, same_role, no_operation, promise_fits, promises_fit, contents_sound, stand_in_turn}
 use Rattle.drafts.specs.Stores.{seen}
 use Rattle.drafts.specs.Statements.{SoundContents, SoundRules}
+use Rattle.drafts.specs.Books.{book_of, CountedContents, BookRules}
 use Rattle.drafts.proofs.Lists.{found_append}
 use Rattle.drafts.proofs.Kept.{found_cons, SoundParts, parts_of}
 use Rattle.drafts.proofs.RuleTerms.{or_left, or_right}
-use Rattle.drafts.proofs.SoundRules.{first_same, function_at, find_rules}
+use Rattle.drafts.proofs.Stores.{length_rules}
+use Rattle.drafts.proofs.Pools.{row_room}
+use Rattle.drafts.proofs.SoundRules.{first_same, role_promises, function_at, find_rules}
 
 -- names
 mem_map : {A B : Type 0} (f : A → B) (P : B → Type 0) (xs : List A) → ((x : A) → P (f x)) → (y : B) → Memᴰ y (map f xs) → P y
@@ -87,6 +92,38 @@ no_number (y ∷ ds) h (suc s) d e c = no_number ds (and_parts (not (is_construc
 parts : (a : Store) → SoundParts (seen a).signature (seen a).promised
 parts a = parts_of (seen a).signature (seen a).promised (and_parts (contents_sound (seen a).signature (seen a).promised) _ a.sound).0
 
+-- no operation past a place
+operations_before : (n : ℕ) (ds : List Declaration) → no_operation (drop n ds) ≡ true → (s : ℕ) (d : Declaration) → slice_get ds s ≡ Some d → d.role ≡ Operation → s < n
+operations_before n [] h s d e r = absurd (zero_one (cc))
+operations_before zero (y ∷ ds) h zero d e r =
+    let i : y ≡ d = cc in
+    absurd (both_ways (not (same_role y.role Operation)) (ap (λ (o : Role). not (same_role o Operation)) (ap (λ (z : Declaration). z.role) i ∙ r)) (and_parts (not (same_role y.role Operation)) (no_operation ds) h).0)
+operations_before zero (y ∷ ds) h (suc s) d e r =
+    let i = operations_before zero ds (and_parts (not (same_role y.role Operation)) (no_operation ds) h).1 s d e r in
+    omega arith
+operations_before (suc n) (y ∷ ds) h zero d e r = omega arith
+operations_before (suc n) (y ∷ ds) h (suc s) d e r = let i = operations_before n ds h s d e r in omega arith
+
+-- as many promises as symbols
+promised_each : (ds : List Declaration) (ps : List ℕ) → promises_fit ds ps ≡ true → length ps ≡ length ds
+promised_each [] [] h = refl
+promised_each [] (p ∷ ps) h = absurd (both_ways false refl h)
+promised_each (d ∷ ds) [] h = absurd (both_ways false refl h)
+promised_each (d ∷ ds) (p ∷ ps) h = ap suc (promised_each ds ps (and_parts (promise_fits d.role p) (promises_fit ds ps) h).1)
+
+-- and each promise fits its symbol
+promise_at : (ds : List Declaration) (ps : List ℕ) → promises_fit ds ps ≡ true → (s : ℕ) (d : Declaration) (p : ℕ) → slice_get ds s ≡ Some d → slice_get ps s ≡ Some p → promise_fits d.role p ≡ true
+promise_at [] ps h s d p e g = absurd (zero_one (cc))
+promise_at (y ∷ ds) [] h s d p e g = absurd (both_ways false refl h)
+promise_at (y ∷ ds) (q ∷ ps) h zero d p e g =
+    let i : y ≡ d = cc in
+    let j : q ≡ p = cc in
+    ap₂ (λ (z : Declaration) (n : ℕ). promise_fits z.role n) (sym i) (sym j) ∙ (and_parts (promise_fits y.role q) (promises_fit ds ps) h).0
+promise_at (y ∷ ds) (q ∷ ps) h (suc s) d p e g = promise_at ds ps (and_parts (promise_fits y.role q) (promises_fit ds ps) h).1 s d p e g
+
+few_symbols : (a : Store) → length (seen a).signature.symbols ≤ 96
+few_symbols a = let l = length_symbols a.signature in let f = a.signature.symbols_fit in omega arith
+
 pub sound_contents : (a : Store) → SoundContents (seen a).signature
 sound_contents a =
     let S = (seen a).signature in
@@ -104,13 +141,37 @@ sound_contents a =
       };
     }
 
-pub sound_rules : (a : Store) → SoundRules (seen a)
-sound_rules a =
+pub counted_contents : (a : Store) → CountedContents (seen a)
+counted_contents a =
+    let S = (seen a).signature in
+    let ps = (seen a).promised in
+    let p = parts a in
+    record {
+      operations = operations_before 3 S.symbols a.operations;
+      one_each = promised_each S.symbols ps p.promise;
+      promises = λ s d n e g. role_promises d.role n (promise_at S.symbols ps p.promise s d n e g);
+      few_symbols = few_symbols a;
+      few = p.few;
+    }
+
+pub book_rules : (a : Store) → BookRules (seen a)
+book_rules a =
     let D = seen a in
     let p = parts a in
-    let l = length_symbols a.signature in
-    let f = a.signature.symbols_fit in
-    let few : length D.signature.symbols ≤ 96 = omega arith in
-    let r = find_rules D.signature (in_turn 0 D.promised) D.rules (λ n g e. function_at D.signature D.promised n g p.promise p.built few e)
+    let r = find_rules D.signature (in_turn 0 D.promised) D.rules (λ n g e. function_at D.signature D.promised n g p.promise p.built (few_symbols a) e)
     (and_parts (contents_sound D.signature D.promised) (stand_in_turn D.signature (in_turn 0 D.promised) D.rules) a.sound).1 in
-    record { rules = r.rules; as_written = r.same; in_order = r.for; sort_correct = r.correct; left_linear = r.linear; patterns = r.pattern }
+    record {
+      as_written = r.same;
+      in_order = r.for;
+      sort_correct = r.correct;
+      left_linear = r.linear;
+      patterns = r.inside;
+      few_rules = (let l = length_rules a in let f = a.rules_fit in omega arith);
+      short = r.short;
+      room = (let l = row_room a.letters 0 a.letter_count (take a.rule_count a.rules) a.laid in let f = a.letters_fit in omega arith);
+    }
+
+pub sound_rules : (a : Store) → SoundRules (seen a)
+sound_rules a =
+    let b = book_rules a in
+    record { rules = (book_of (seen a)).rules; as_written = b.as_written; in_order = b.in_order; sort_correct = b.sort_correct; left_linear = b.left_linear; patterns = b.patterns }

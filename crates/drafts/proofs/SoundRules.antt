@@ -1,32 +1,35 @@
 -- The rules of a sound draft are rules of a book.
-use Rattle.std.proofs.Common.{◌≡◌, ℕ, zero, suc, ◌+◌, ◌^◌, ◌<◌, ◌≤◌, Bool, true, false, cond, not, ◌&&◌, ◌||◌, eqb, ltb, List, [], ◌∷◌, ◌++◌, map, length, take, replicate, Some, None, Ok, Err, Option, Result, sym, refl, ap, ◌∙◌, subst, ap₂, append-nil, arith}
+use Rattle.std.proofs.Common.{◌≡◌, ℕ, zero, suc, ◌+◌, ◌^◌, ◌<◌, ◌≤◌, Bool, true, false, cond, not, ◌&&◌, ◌||◌, eqb, ltb, ◌↔◌, List, [], ◌∷◌, ◌++◌, map, length, take, replicate, Some, None, Ok, Err, Option, Result, sym, refl, ap, ◌∙◌, subst, ap₂, append-nil, arith}
 use mathlib.Core.List.{Memᴰ}
 use Rattle.std.specs.List.{slice_get}
-use Rattle.std.proofs.lemmas.Bool.{and_parts, eqb-true, both_ways, not-true, not-false}
+use Rattle.std.proofs.lemmas.Bool.{and_parts, eqb-true, ltb-true, both_ways, not-true, not-false}
 use Rattle.std.specs.Str.{bytes_eq}
 use Rattle.terms.specs.declared.signature.Role.{Role}
 use Rattle.terms.specs.declared.signature.Role.TheVariants.{Constructor, Function, Operation}
 use Rattle.terms.specs.Terms.{Head, cell, symbol, Fn, own, Term, var, con, fun, Terms, nil, ◌▸◌}
-use Rattle.terms.specs.Options.{more}
+use Rattle.terms.specs.Options.{onward, more}
 use Rattle.terms.specs.Signatures.{Declaration, Signature, built_in}
 use Rattle.terms.specs.Roots.{variable, head, call, number, fn_number, fn_of, is_constructor, Stands}
 use Rattle.terms.specs.Sorting.{fn_sort}
 use Rattle.terms.specs.Views.{given}
 use Rattle.terms.proofs.Letters.{zero_one}
 use Rattle.terms.proofs.Options.{more_none}
-use Rattle.words.specs.Words.{word, words, Fits, AllFit}
+use Rattle.words.specs.Words.{word, words, read, Fits, AllFit}
 use Rattle.words.specs.Faults.{first_not, is_declared, not_whole, walk, wrong_place}
+use Rattle.words.proofs.Rows.{reads_back}
 use Rattle.words.proofs.Faultless.{tells_whole}
 use Rattle.words.proofs.Sorts.{sorted_words}
 use Rattle.rewriting.specs.Substitutions.{variables}
 use Rattle.rewriting.proofs.Occurrences.{different_linear}
 use Rattle.rewriting.specs.Rules.{Rule, left_side, Linear, SortCorrect}
 use Rattle.drafts.specs.declared.fault.RuleFault.{RuleFault}
-use Rattle.drafts.specs.Drafts.{Sides, sides, Draft, in_turn}
+use Rattle.drafts.specs.Drafts.{Sides, sides, Draft, in_turn, longest_side}
 use Rattle.drafts.specs.Rules.{is_cell, is_variable, is_function, stands_in, first_that, bad_length, first_cell, starts_with, inner_function, first_twice, is_new, first_new, left_sorts, none_known, right_wrong, at_place, sort_wrong, word_faults, shape_faults, rule_fault}
 use Rattle.drafts.specs.Soundness.{same_declaration, same_role, begins_with, promise_fits, promises_fit, faultless, stand_in_turn}
 use Rattle.drafts.specs.Statements.{Patterns, written}
+use Rattle.drafts.specs.Books.{rule_between, rule_of, rule_before, rules_read}
 use Rattle.drafts.proofs.Kept.{none_either, none_test, same_equal}
+use Rattle.drafts.proofs.Ruled.{good_length}
 use Rattle.drafts.proofs.RuleTerms.{letter_for, that_cons, var_is, patterns_of, mem_word, word_mem, linear_word, left_sorted, var_below, that_at}
 
 -- a declared function, not one of the operations
@@ -67,7 +70,12 @@ sorts_none : (S : Signature) (k : ℕ) (r : List ℕ) (o : Result (List (Option 
 sorts_none S k r (Err i) h = absurd (zero_one (cc))
 sorts_none S k r (Ok vs) h = (vs, refl, (place_none _ (right_wrong S k r vs) None h).0)
 
+-- neither side is empty or too long
+abbrev pub Short : Sides → Type 0
+Short q = (0 < length q.left) × (length q.left ≤ longest_side) × (0 < length q.right) × (length q.right ≤ longest_side)
+
 record NoFault (S : Signature) (f : ℕ) (q : Sides) : Type 0 where
+  short : Short q
   no_cell : first_cell q.left ≡ None
   whole_left : not_whole S q.left ≡ None
   whole_right : not_whole S q.right ≡ None
@@ -94,7 +102,10 @@ no_fault S f q h =
     let l = place_none _ (first_twice q.left) _ k.1 in
     let m = place_none _ (first_new q.left q.right) _ l.1 in
     let n = sorts_none S (fn_sort S (own f)) q.right (left_sorts S (fn_sort S (own f) ∷ []) none_known q.left) m.1 in
+    let left_long = good_length q.left a.0 in
+    let right_long = good_length q.right b.0 in
     record {
+      short = (left_long.0, left_long.1, right_long.0, right_long.1);
       no_cell = e.0;
       whole_left = g.0;
       whole_right = i.0;
@@ -110,11 +121,13 @@ no_fault S f q h =
 -- the rule that two words without fault are
 pub record RuleFound (S : Signature) (f : ℕ) (q : Sides) : Type 0 where
   pub rule : Rule
+  pub is_read : rule_of S q ≡ Some rule
   pub same : written rule ≡ q
   pub for : rule.function ≡ f
   pub correct : SortCorrect S rule
   pub linear : Linear (left_side rule)
-  pub pattern : Patterns rule.left
+  pub inside : Patterns rule.left
+  pub short : Short q
 
 pub find_rule : (S : Signature) (f : ℕ) (q : Sides) → FunctionAt S f → rule_fault S f q ≡ None → RuleFound S f q
 find_rule S f q at h =
@@ -133,6 +146,9 @@ find_rule S f q at h =
         ap (λ (w : List ℕ). wrong_place (walk S (given n.known) (k ∷ []) w)) (append-nil (word t ++ []) ∙ append-nil (word t) ∙ er) ∙ n.right_fine in
         record {
           rule = record { function = f; left = ts; right = t };
+          is_read =
+              ap (λ (o : Option Term). onward o (λ u. onward (read S q.right) (rule_between u))) ((reads_back S q.left l).1 (el, fl))
+              ∙ ap (λ (o : Option Term). onward o (rule_between l)) ((reads_back S q.right t).1 (er, fr));
           same = ap₂ sides el er;
           for = refl;
           correct = record {
@@ -146,19 +162,21 @@ find_rule S f q at h =
                 word_mem S l x fl small (ap (stands_in (letter_for x)) el ∙ not_new (is_variable (letter_for x)) (stands_in (letter_for x) q.left) (var_is S x small) old);
           };
           linear = different_linear l (linear_word S l fl (ap first_twice el ∙ n.once));
-          pattern = patterns_of S ts fl.2 (that_cons is_cell (number (call (own f))) (words ts) (ap first_cell el ∙ n.no_cell)).1 (more_none (first_that (is_function S) (words ts)) (ap (inner_function S) el ∙ n.no_function));
+          inside = patterns_of S ts fl.2 (that_cons is_cell (number (call (own f))) (words ts) (ap first_cell el ∙ n.no_cell)).1 (more_none (first_that (is_function S) (words ts)) (ap (inner_function S) el ∙ n.no_function));
+          short = n.short;
         }
       where
         not_new : (b c : Bool) → b ≡ true → (b && not c) ≡ false → c ≡ true
         not_new true c e g = not-false c g
         not_new false c e g = absurd (both_ways false refl e)
 
--- a function in turn was declared as one
-role_from : (o : Role) (p : ℕ) → promise_fits o p ≡ true → 0 < p → o ≡ Function
-role_from Constructor p h l = let e = eqb-true p 0 h in absurd (omega arith)
-role_from Function p h l = refl
-role_from Operation p h l = let e = eqb-true p 0 h in absurd (omega arith)
+-- functions alone promise rules
+pub role_promises : (o : Role) (p : ℕ) → promise_fits o p ≡ true → (0 < p) ↔ (o ≡ Function)
+role_promises Constructor p h = let e = eqb-true p 0 h in ((λ l. absurd (omega arith)), (λ r. absurd (zero_one (cc))))
+role_promises Function p h = ((λ l. refl), (λ r. ltb-true 0 p h))
+role_promises Operation p h = let e = eqb-true p 0 h in ((λ l. absurd (omega arith)), (λ r. absurd (zero_one (cc))))
 
+-- a function in turn was declared as one
 record Promising (ds : List Declaration) (s f : ℕ) : Type 0 where
   place : ℕ
   declaration : Declaration
@@ -172,7 +190,7 @@ promising [] (p ∷ ps) s n f h e = absurd (both_ways false refl h)
 promising (d ∷ ds) [] s n f h e = absurd (both_ways false refl h)
 promising (d ∷ ds) (p ∷ ps) s n f h e =
     let a = and_parts (promise_fits d.role p) (promises_fit ds ps) h in
-    go (role_from d.role p a.0) (λ m g. promising ds ps (suc s) m f a.1 g) p n (omega arith) e
+    go (role_promises d.role p a.0).0 (λ m g. promising ds ps (suc s) m f a.1 g) p n (omega arith) e
   where
     go : (0 < p → d.role ≡ Function) → ((m : ℕ) → slice_get (in_turn (suc s) ps) m ≡ Some f → Promising ds (suc s) f) → (q m : ℕ) → q ≤ p → slice_get (replicate q s ++ in_turn (suc s) ps) m ≡ Some f → Promising (d ∷ ds) s f
     go r ih zero m l g = let i = ih m g in let e = i.is in record { place = suc i.place; declaration = i.declaration; is = omega arith; there = i.there; role = i.role }
@@ -230,14 +248,14 @@ function_at S ps n f h b few e =
     go (suc (suc zero)) g = absurd (not_operation S 2 _ (promising S.symbols ps 0 n f h e).declaration b refl refl g (promising S.symbols ps 0 n f h e).role)
     go (suc (suc (suc j))) g = omega arith
 
--- the rules of all words that stand in turn
-pub record RulesFound (S : Signature) (fs : List ℕ) (qs : List Sides) : Type 0 where
-  pub rules : List Rule
-  pub same : map written rules ≡ qs
-  pub for : map (λ (r : Rule). r.function) rules ≡ take (length qs) fs
-  pub correct : (r : Rule) → Memᴰ r rules → SortCorrect S r
-  pub linear : (r : Rule) → Memᴰ r rules → Linear (left_side r)
-  pub pattern : (r : Rule) → Memᴰ r rules → Patterns r.left
+-- the rules rs of all words that stand in turn
+pub record RulesFound (S : Signature) (fs : List ℕ) (qs : List Sides) (rs : List Rule) : Type 0 where
+  pub same : map written rs ≡ qs
+  pub for : map (λ (r : Rule). r.function) rs ≡ take (length qs) fs
+  pub correct : (r : Rule) → Memᴰ r rs → SortCorrect S r
+  pub linear : (r : Rule) → Memᴰ r rs → Linear (left_side r)
+  pub inside : (r : Rule) → Memᴰ r rs → Patterns r.left
+  pub short : (q : Sides) → Memᴰ q qs → Short q
 
 -- what holds of the first and of each later one holds of each
 each : {A : Type 0} (P : A → Type 0) (x : A) (xs : List A) → P x → ((y : A) → Memᴰ y xs → P y) → (y : A) → Memᴰ y (x ∷ xs) → P y
@@ -248,18 +266,19 @@ no_more : (o : Option RuleFault) → faultless o ≡ true → o ≡ None
 no_more None h = refl
 no_more (Some e) h = absurd (both_ways false refl h)
 
-pub find_rules : (S : Signature) (fs : List ℕ) (qs : List Sides) → ((n f : ℕ) → slice_get fs n ≡ Some f → FunctionAt S f) → stand_in_turn S fs qs ≡ true → RulesFound S fs qs
-find_rules S fs [] at h = record { rules = []; same = refl; for = refl; correct = λ r m. elim m [ ]; linear = λ r m. elim m [ ]; pattern = λ r m. elim m [ ] }
+pub find_rules : (S : Signature) (fs : List ℕ) (qs : List Sides) → ((n f : ℕ) → slice_get fs n ≡ Some f → FunctionAt S f) → stand_in_turn S fs qs ≡ true → RulesFound S fs qs (rules_read S qs)
+find_rules S fs [] at h = record { same = refl; for = refl; correct = λ r m. elim m [ ]; linear = λ r m. elim m [ ]; inside = λ r m. elim m [ ]; short = λ q m. elim m [ ] }
 find_rules S [] (q ∷ qs) at h = absurd (both_ways false refl h)
 find_rules S (f ∷ fs) (q ∷ qs) at h =
     let p = and_parts (faultless (rule_fault S f q)) (stand_in_turn S fs qs) h in
     let a = find_rule S f q (at 0 f refl) (no_more (rule_fault S f q) p.0) in
+    let rs = rules_read S qs in
     let b = find_rules S fs qs (λ n g e. at (suc n) g e) p.1 in
-    record {
-      rules = a.rule ∷ b.rules;
+    subst (RulesFound S (f ∷ fs) (q ∷ qs)) (ap (λ (o : Option Rule). rule_before o rs) (sym a.is_read)) (record {
       same = ap₂ (λ (x : Sides) (xs : List Sides). x ∷ xs) a.same b.same;
       for = ap₂ (λ (x : ℕ) (xs : List ℕ). x ∷ xs) a.for b.for;
-      correct = each (SortCorrect S) a.rule b.rules a.correct b.correct;
-      linear = each (λ r. Linear (left_side r)) a.rule b.rules a.linear b.linear;
-      pattern = each (λ r. Patterns r.left) a.rule b.rules a.pattern b.pattern;
-    }
+      correct = each (SortCorrect S) a.rule rs a.correct b.correct;
+      linear = each (λ r. Linear (left_side r)) a.rule rs a.linear b.linear;
+      inside = each (λ r. Patterns r.left) a.rule rs a.inside b.inside;
+      short = each Short q qs a.short b.short;
+    })

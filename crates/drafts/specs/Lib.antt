@@ -7,3 +7,4 @@ pub mod Soundness
 pub mod Stores
 pub mod Dues
 pub mod Statements
+pub mod Books

@@ -1,5 +1,5 @@
 -- What every draft keeps, as a test. Assumes nothing.
-use Rattle.std.specs.Prelude.{ℕ, Bool, true, false, not, ◌&&◌, ◌||◌, List, [], ◌∷◌, length, Some, None, Option, ◌==◌, nat_le, nat_lt}
+use Rattle.std.specs.Prelude.{ℕ, Bool, true, false, not, ◌&&◌, ◌||◌, List, [], ◌∷◌, length, drop, Some, None, Option, ◌==◌, nat_le, nat_lt}
 use Rattle.std.specs.Str.{bytes_eq}
 use Rattle.terms.specs.declared.signature.Role.{Role}
 use Rattle.terms.specs.declared.signature.Role.TheVariants.{Constructor, Function, Operation}
@@ -79,3 +79,12 @@ contents_sound S ps =
 
 abbrev pub is_sound : Draft → Bool
 is_sound D = contents_sound D.signature D.promised && stand_in_turn D.signature (in_turn 0 D.promised) D.rules
+
+-- no operation
+abbrev pub no_operation : List Declaration → Bool
+no_operation [] = true
+no_operation (d ∷ ds) = not (same_role d.role Operation) && no_operation ds
+
+-- the three operations stand first, and no other symbol is one
+abbrev pub three_operations : Signature → Bool
+three_operations S = no_operation (drop 3 S.symbols)

@@ -2,7 +2,8 @@
 ghost use Rattle.std.specs.Prelude.{◌≡◌, ◌≤◌, true, length, take};
 ghost use Rattle.drafts.specs.Drafts.{most_rules, most_letters};
 ghost use Rattle.drafts.specs.Views.{drafted, in_a_row};
-ghost use Rattle.drafts.specs.Soundness.{is_sound};
+ghost use Rattle.terms.specs.Views.{view};
+ghost use Rattle.drafts.specs.Soundness.{is_sound, three_operations};
 
 use crate::span::Span;
 use terms::signature::Signature;
@@ -34,4 +35,5 @@ pub struct Draft {
     ghost letters_fit: { letter_count ≤ most_letters },
     ghost laid: { in_a_row 0 (take rule_count rules) letter_count ≡ true },
     ghost sound: { is_sound (drafted signature promised letters (take rule_count rules)) ≡ true },
+    ghost operations: { three_operations (view signature) ≡ true },
 }

@@ -5,6 +5,7 @@ ghost use Rattle.terms.specs.Options.{mapped};
 ghost use Rattle.terms.specs.Views.{view};
 ghost use Rattle.drafts.specs.Drafts.{functions_in, most_letters};
 ghost use Rattle.drafts.specs.Statements.{SoundContents, SoundRules};
+ghost use Rattle.drafts.specs.Books.{CountedContents, BookRules};
 ghost use Rattle.drafts.specs.Stores.{seen};
 
 use super::Draft;
@@ -15,6 +16,7 @@ impl Draft {
     pub fn signature(&self) -> &Signature
         ensures value { view result.now ≡ (seen self.now).signature }
         ensures sound { SoundContents (seen self.now).signature }
+        ensures counted { CountedContents (seen self.now) }
     {
         &self.signature
     }
@@ -23,6 +25,7 @@ impl Draft {
     pub fn rule_count(&self) -> usize
         ensures value { result ≡ length (seen self.now).rules }
         ensures sound { SoundRules (seen self.now) }
+        ensures book { BookRules (seen self.now) }
     {
         self.rule_count
     }

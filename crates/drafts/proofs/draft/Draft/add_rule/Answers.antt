@@ -48,7 +48,7 @@ invariant_of-self c =
     let q = add_new_rule a c.copy_from_slice.new.self c.copy_from_slice-2.new.self c.args.left.now c.args.right.now c.in_ok-rule_verdict.ensures (search rules) c.copy_from_slice.ensures.after c.copy_from_slice-2.ensures.after in
     let place = q.place in
     let fits = q.fits in
-    record { rules_long = simp length-set a.rules_long; rules_fit = omega arith; letters_fit = fits; laid = q.laid; sound = q.sound }
+    record { rules_long = simp length-set a.rules_long; rules_fit = omega arith; letters_fit = fits; laid = q.laid; sound = q.sound; operations = a.operations }
 
 pub returns : goal.returns
 returns c =

@@ -58,7 +58,7 @@ pub invariant_of-self : goal.invariant_of-self
 invariant_of-self c =
     let a = c.args.self.now in
     let q = add_new_function a c.args.name.now _ c.args.args.now c.narrowed-sorts.result c.args.sort c.args.rules c.add_function.result c.add_function.new.self c.in_ok-new.ensures c.narrowed-sorts.ensures (search rules) c.add_function.ensures in
-    record { rules_long = a.rules_long; rules_fit = a.rules_fit; letters_fit = a.letters_fit; laid = a.laid; sound = q.sound c.in-Some.number c.in-Some.is }
+    record { rules_long = a.rules_long; rules_fit = a.rules_fit; letters_fit = a.letters_fit; laid = a.laid; sound = q.sound c.in-Some.number c.in-Some.is; operations = q.operations c.in-Some.number c.in-Some.is }
 
 pub invariant_of-self-in-None : goal.invariant_of-self-in-None
 invariant_of-self-in-None c =

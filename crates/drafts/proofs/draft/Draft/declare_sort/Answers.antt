@@ -17,7 +17,7 @@ returns-in_err-new c =
 pub invariant_of-self : goal.invariant_of-self
 invariant_of-self c =
     let a = c.args.self.now in
-    record { rules_long = a.rules_long; rules_fit = a.rules_fit; letters_fit = a.letters_fit; laid = a.laid; sound = (add_new_sort a c.args.name.now _ _ _ c.in_ok-new.ensures c.add_sort.ensures).sound }
+    record { rules_long = a.rules_long; rules_fit = a.rules_fit; letters_fit = a.letters_fit; laid = a.laid; sound = (add_new_sort a c.args.name.now _ _ _ c.in_ok-new.ensures c.add_sort.ensures).sound; operations = (add_new_sort a c.args.name.now _ _ _ c.in_ok-new.ensures c.add_sort.ensures).operations }
 
 pub returns-in-Some : goal.returns-in-Some
 returns-in-Some c =
