@@ -19,9 +19,9 @@ use Rattle.rewriting.proofs.Exactness.{fixed_tree_exact}
 use Rattle.rewriting.proofs.Completeness.{tells_complete}
 use Rattle.drafts.specs.declared.draft.Draft.{Draft}
 use Rattle.drafts.specs.Drafts.{awaited}
-use Rattle.drafts.specs.Statements.{book-of}
+use Rattle.drafts.specs.Books.{book_of}
 use Rattle.drafts.specs.Stores.{seen}
-use Rattle.drafts.proofs.Sound.{sound_contents}
+use Rattle.drafts.proofs.Sound.{sound_contents, counted_contents}
 use Rattle.trees.specs.declared.fault.CheckFault.{CheckFault}
 use Rattle.trees.specs.declared.fault.CheckFault.TheVariants.{RulesMissing, NoTree, Incomplete}
 use Rattle.trees.specs.Checks.{function_role, judged, fault_at, first_fault, check_fault}
@@ -104,7 +104,7 @@ first_means B says (suc n) s l h =
 -- what the fault of a draft's symbol says, where no rule is awaited
 module _ (d : Draft) (whole : awaited (seen d) ≡ None) where
   abbrev B : Book
-  B = book-of (seen d)
+  B = book_of (seen d)
 
   function_says : (f : ℕ) → IsFunction B.signature f → Says B f (judged B.signature f (fixed_tree B f))
   function_says f h = go (fixed_tree B f) refl
@@ -114,7 +114,7 @@ module _ (d : Draft) (whole : awaited (seen d) ≡ None) where
 
       tells : (t : Node) → fixed_tree B f ≡ Some t → (is_complete B.signature t ≡ true) ↔ CompleteFor B f t
       tells =
-          tells_complete B f (sound_contents d).proper (sound_contents d).few-symbols (draft_ruled d f whole h)
+          tells_complete B f (sound_contents d).proper (counted_contents d).few_symbols (draft_ruled d f whole h)
           (λ r m p. draft_cells d p r (kept_mem (λ q. eqb q.function f) B.rules m).0)
 
       at_fault : (CompletelyDefined B f → ⊥) → DefinedBefore B f → FirstAtFault B f
@@ -145,20 +145,20 @@ module _ (d : Draft) (whole : awaited (seen d) ≡ None) where
   faults_mean = first_means B symbol_says (length B.signature.symbols) 0 (omega arith) (λ g k. absurd (omega arith))
 
 -- the answer is right, and so it is the only right one
-check_means : (d : Draft) → Means (awaited (seen d)) (book-of (seen d)) (check_fault (seen d))
+check_means : (d : Draft) → Means (awaited (seen d)) (book_of (seen d)) (check_fault (seen d))
 check_means d = go (awaited (seen d)) refl
   where
-    go : (a : Option ℕ) → awaited (seen d) ≡ a → Means a (book-of (seen d)) (or_else (mapped RulesMissing a) (first_fault (book-of (seen d)) 0 (seen d).signature.symbols))
+    go : (a : Option ℕ) → awaited (seen d) ≡ a → Means a (book_of (seen d)) (or_else (mapped RulesMissing a) (first_fault (book_of (seen d)) 0 (seen d).signature.symbols))
     go None e = faults_mean d e
     go (Some f) e = refl
 
-check_tells : (d : Draft) (o : Option CheckFault) → check_fault (seen d) ≡ o → Means (awaited (seen d)) (book-of (seen d)) o
-check_tells d o e = subst (Means (awaited (seen d)) (book-of (seen d))) e (check_means d)
+check_tells : (d : Draft) (o : Option CheckFault) → check_fault (seen d) ≡ o → Means (awaited (seen d)) (book_of (seen d)) o
+check_tells d o e = subst (Means (awaited (seen d)) (book_of (seen d))) e (check_means d)
 
-check_told : (d : Draft) (o : Option CheckFault) → Means (awaited (seen d)) (book-of (seen d)) o → check_fault (seen d) ≡ o
-check_told d o = one_answer (awaited (seen d)) (book-of (seen d)) (check_fault (seen d)) o (check_means d)
+check_told : (d : Draft) (o : Option CheckFault) → Means (awaited (seen d)) (book_of (seen d)) o → check_fault (seen d) ≡ o
+check_told d o = one_answer (awaited (seen d)) (book_of (seen d)) (check_fault (seen d)) o (check_means d)
 
-pub accepted_complete : (d : Draft) → check_fault (seen d) ≡ None → (awaited (seen d) ≡ None) × HasCompleteTrees (book-of (seen d))
+pub accepted_complete : (d : Draft) → check_fault (seen d) ≡ None → (awaited (seen d) ≡ None) × HasCompleteTrees (book_of (seen d))
 accepted_complete d = check_tells d None
 
 pub exact_check : (d : Draft) → ExactCheck (seen d) (check_fault (seen d))

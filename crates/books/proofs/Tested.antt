@@ -16,9 +16,9 @@ use Rattle.rewriting.proofs.Basics.{same_head_true, same_head_same, same_fn_true
 use Rattle.rewriting.proofs.Variants.{same_fn_same}
 use Rattle.drafts.specs.declared.draft.Draft.{Draft}
 use Rattle.drafts.specs.Drafts.{awaited}
-use Rattle.drafts.specs.Statements.{book-of}
+use Rattle.drafts.specs.Books.{book_of}
 use Rattle.drafts.specs.Stores.{seen}
-use Rattle.drafts.proofs.Sound.{sound_contents, sound_rules}
+use Rattle.drafts.proofs.Sound.{sound_contents, counted_contents, book_rules}
 use Rattle.trees.specs.declared.node.Node.{Node}
 use Rattle.trees.specs.declared.node.Kind.{Kind}
 use Rattle.trees.specs.declared.node.Kind.TheVariants.{Rule as Rule-node, Branch}
@@ -195,19 +195,20 @@ none_there None e = refl
 none_there (Some a) e = absurd (zero_one (cc))
 
 -- a rule set: its test and what it tells
-pub set_tested : (d : Draft) (t : Trees) → awaited (seen d) ≡ None → AllRooted (book-of (seen d)) t → set_sound (seen d) t ≡ true
+pub set_tested : (d : Draft) (t : Trees) → awaited (seen d) ≡ None → AllRooted (book_of (seen d)) t → set_sound (seen d) t ≡ true
 set_tested d t e h =
-    and_from (is_none (awaited (seen d))) (all_rooted (book-of (seen d)) t 0 (seen d).signature.symbols) (ap is_none e)
-    (all_tested (book-of (seen d)) t 0 (seen d).signature.symbols (λ k y i r. let z : k ≡ 0 + k = omega arith in subst (Rooted (book-of (seen d)) t) z (h k (stands_function d k (y, i, r)))))
+    and_from (is_none (awaited (seen d))) (all_rooted (book_of (seen d)) t 0 (seen d).signature.symbols) (ap is_none e)
+    (all_tested (book_of (seen d)) t 0 (seen d).signature.symbols (λ k y i r. let z : k ≡ 0 + k = omega arith in subst (Rooted (book_of (seen d)) t) z (h k (stands_function d k (y, i, r)))))
 
 pub set_tells : (d : Draft) (t : Trees) → set_sound (seen d) t ≡ true → SoundSet (seen d) t
 set_tells d t e =
-    let a = and_parts (is_none (awaited (seen d))) (all_rooted (book-of (seen d)) t 0 (seen d).signature.symbols) e in
+    let a = and_parts (is_none (awaited (seen d))) (all_rooted (book_of (seen d)) t 0 (seen d).signature.symbols) e in
     record {
       contents = sound_contents d;
-      rules = sound_rules d;
+      counted = counted_contents d;
+      rules = book_rules d;
       whole = none_there (awaited (seen d)) a.0;
-      rooted = λ f h. let x = function_stands d f h in let z : 0 + f ≡ f = omega arith in subst (Rooted (book-of (seen d)) t) z (all_from_test (book-of (seen d)) t 0 (seen d).signature.symbols a.1 f x.0 x.1 x.2);
+      rooted = λ f h. let x = function_stands d f h in let z : 0 + f ≡ f = omega arith in subst (Rooted (book_of (seen d)) t) z (all_from_test (book_of (seen d)) t 0 (seen d).signature.symbols a.1 f x.0 x.1 x.2);
     }
 
 -- a book's

@@ -11,7 +11,7 @@ use Rattle.rewriting.specs.Rules.{Rule, Book}
 use Rattle.rewriting.specs.Trees.{Node as Tree, at_rule, branch, Nodes as Children, no_child, child}
 use Rattle.rewriting.specs.FixedTree.{same_head, same_fn, fixed_tree}
 use Rattle.drafts.specs.Drafts.{Draft, awaited}
-use Rattle.drafts.specs.Statements.{book-of}
+use Rattle.drafts.specs.Books.{book_of}
 use Rattle.trees.specs.declared.fault.CheckFault.{CheckFault}
 use Rattle.trees.specs.declared.node.Node.{Node}
 use Rattle.trees.specs.declared.node.Kind.{Kind}
@@ -93,7 +93,7 @@ is_none (Some a) = false
 
 -- a rule set: no rule is awaited, and each function has its fixed tree
 abbrev pub set_sound : Draft → Trees → Bool
-set_sound D t = is_none (awaited D) && all_rooted (book-of D) t 0 D.signature.symbols
+set_sound D t = is_none (awaited D) && all_rooted (book_of D) t 0 D.signature.symbols
 
 -- a book: Check finds no fault
 abbrev pub is_accepted : Draft → Bool

@@ -6,7 +6,8 @@ use Rattle.rewriting.specs.Rules.{Book}
 use Rattle.rewriting.specs.Trees.{Node, TreeFor, CompleteFor}
 use Rattle.rewriting.specs.Promises.{HasCompleteTrees}
 use Rattle.drafts.specs.Drafts.{Draft, awaited}
-use Rattle.drafts.specs.Statements.{book-of, SoundContents, SoundRules}
+use Rattle.drafts.specs.Statements.{SoundContents}
+use Rattle.drafts.specs.Books.{book_of, CountedContents, BookRules}
 use Rattle.trees.specs.declared.fault.CheckFault.{CheckFault}
 use Rattle.trees.specs.declared.fault.CheckFault.TheVariants.{RulesMissing, NoTree, Incomplete}
 use Rattle.trees.specs.declared.trees.Trees.{Trees}
@@ -25,19 +26,20 @@ pub record FirstAtFault (B : Book) (f : ℕ) : Type 0 where
 -- Exact: a draft is accepted where no rule is missing and every function has a complete tree; else the function whose rule is missing is told, or the first
 -- function without a complete tree, and whether it has no tree at all.
 pub record ExactCheck (D : Draft) (o : Option CheckFault) : Type 0 where
-  pub accepted : (o ≡ None) ↔ ((awaited D ≡ None) × HasCompleteTrees (book-of D))
+  pub accepted : (o ≡ None) ↔ ((awaited D ≡ None) × HasCompleteTrees (book_of D))
   pub missing : (f : ℕ) → (o ≡ Some (RulesMissing f)) ↔ (awaited D ≡ Some f)
-  pub no_tree : (f : ℕ) → (o ≡ Some (NoTree f)) ↔ ((awaited D ≡ None) × FirstAtFault (book-of D) f × ((n : Node) → TreeFor (book-of D) f n → ⊥))
-  pub incomplete : (f : ℕ) → (o ≡ Some (Incomplete f)) ↔ ((awaited D ≡ None) × FirstAtFault (book-of D) f × ((n : Node) × TreeFor (book-of D) f n))
+  pub no_tree : (f : ℕ) → (o ≡ Some (NoTree f)) ↔ ((awaited D ≡ None) × FirstAtFault (book_of D) f × ((n : Node) → TreeFor (book_of D) f n → ⊥))
+  pub incomplete : (f : ℕ) → (o ≡ Some (Incomplete f)) ↔ ((awaited D ≡ None) × FirstAtFault (book_of D) f × ((n : Node) × TreeFor (book_of D) f n))
 
 -- every rule set: sort-correct and left-linear, no rule is missing, and the nodes are the fixed trees of its functions
 pub record SoundSet (D : Draft) (t : Trees) : Type 0 where
-  pub contents : SoundContents D
-  pub rules : SoundRules D
+  pub contents : SoundContents D.signature
+  pub counted : CountedContents D
+  pub rules : BookRules D
   pub whole : awaited D ≡ None
-  pub rooted : AllRooted (book-of D) t
+  pub rooted : AllRooted (book_of D) t
 
 -- every book: and each function has a complete tree
 pub record SoundBook (D : Draft) (t : Trees) : Type 0 where
   pub set : SoundSet D t
-  pub complete : HasCompleteTrees (book-of D)
+  pub complete : HasCompleteTrees (book_of D)

@@ -1,7 +1,7 @@
 -- A sweep of a pulse generator over four meters. Assumes nothing.
 use Rattle.std.specs.Prelude.{◌≡◌, ℕ, ◌+◌, ◌%◌, ◌≤◌, min, Bool, true, false, cond, ◌||◌, List, [], ◌∷◌, ◌++◌, length, drop, pos, negsuc, ◌+ℤ◌, sum, count_by, ◌==◌, nat_le}
 use Rattle.std.specs.Int.{int_min}
-use Rattle.std.specs.List.{AllByRecursion as All}
+use Rattle.std.specs.List.{AllByRecursion}
 use Rattle.numbers.specs.Meaning.{Meaning, Lawful, plus_answer, minus_answer, atmost_answer}
 use Rattle.numbers.specs.Pulses.{pulses}
 use Rattle.numbers.specs.Ring.{ring}
@@ -69,7 +69,7 @@ pub record AddsUp (p : Panel) (ns : List ℕ) (q : Panel) : Type 0 where
 
 -- No tick has more pulses than the gauge can show.
 abbrev pub Steady : List ℕ → Type 0
-Steady ns = All (λ n. n ≤ 300) ns
+Steady ns = AllByRecursion (λ n. n ≤ 300) ns
 
 -- whether two marks are the same
 abbrev pub same_mark : Mark → Mark → Bool

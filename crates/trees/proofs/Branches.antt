@@ -16,7 +16,7 @@ use Rattle.rewriting.specs.Completeness.{covers}
 use Rattle.rewriting.proofs.Building.{children_heads}
 use Rattle.drafts.specs.declared.draft.Draft.{Draft}
 use Rattle.drafts.specs.Drafts.{longest_side}
-use Rattle.drafts.specs.Statements.{book-of}
+use Rattle.drafts.specs.Books.{book_of}
 use Rattle.drafts.specs.Stores.{seen}
 use Rattle.trees.specs.declared.shared.Shared.{Shared}
 use Rattle.trees.specs.declared.store.Store.{Store}
@@ -45,23 +45,23 @@ few_arguments g s = go (take g.symbol_count g.symbols) s
 
 -- no rule is left alone, and the rules that remain share a position
 pub record Branching (d : Draft) (ps : List (List ℕ)) (m : List Bool) (n : ℕ) (s : Shared) : Type 0 where
-  pub stage : AtStage (book-of (seen d)) n ps (chosen m (book-of (seen d)).rules)
-  pub none : sole_open ps (chosen m (book-of (seen d)).rules) ≡ None
-  pub shared : first_shared ps (chosen m (book-of (seen d)).rules) ≡ Some (steps_of s.path)
-  pub heads : s.heads ≡ heads_at (steps_of s.path) m (book-of (seen d)).rules
+  pub stage : AtStage (book_of (seen d)) n ps (chosen m (book_of (seen d)).rules)
+  pub none : sole_open ps (chosen m (book_of (seen d)).rules) ≡ None
+  pub shared : first_shared ps (chosen m (book_of (seen d)).rules) ≡ Some (steps_of s.path)
+  pub heads : s.heads ≡ heads_at (steps_of s.path) m (book_of (seen d)).rules
   pub long : length s.heads ≡ 96
 
-pub branching : (d : Draft) (ps : List (List ℕ)) (m : List Bool) (n : ℕ) (s : Shared) → AtStage (book-of (seen d)) n ps (chosen m (book-of (seen d)).rules)
-    → IsPlace (book-of (seen d)).rules (sole_open ps (chosen m (book-of (seen d)).rules)) None
-    → IsShared (book-of (seen d)).rules m (first_shared ps (chosen m (book-of (seen d)).rules)) (Some s) → length s.heads ≡ 96 → Branching d ps m n s
+pub branching : (d : Draft) (ps : List (List ℕ)) (m : List Bool) (n : ℕ) (s : Shared) → AtStage (book_of (seen d)) n ps (chosen m (book_of (seen d)).rules)
+    → IsPlace (book_of (seen d)).rules (sole_open ps (chosen m (book_of (seen d)).rules)) None
+    → IsShared (book_of (seen d)).rules m (first_shared ps (chosen m (book_of (seen d)).rules)) (Some s) → length s.heads ≡ 96 → Branching d ps m n s
 branching d ps m n s stage e f long =
-    let R = (book-of (seen d)).rules in
+    let R = (book_of (seen d)).rules in
     let x = shared_some R m (first_shared ps (chosen m R)) s f in
     record { stage = stage; none = place_none R (sole_open ps (chosen m R)) e; shared = x.0; heads = x.1; long = long }
 
 module _ (d : Draft) (ps : List (List ℕ)) (m : List Bool) (n : ℕ) (s : Shared) (b : Branching d ps m n s) where
   abbrev B : Book
-  B = book-of (seen d)
+  B = book_of (seen d)
 
   abbrev rs : List Rule
   rs = chosen m B.rules

@@ -15,9 +15,10 @@ use Rattle.rewriting.proofs.Lists.{kept_all}
 use Rattle.drafts.specs.declared.draft.Draft.{Draft as Store}
 use Rattle.drafts.specs.Drafts.{Sides}
 use Rattle.drafts.specs.Rules.{starts_with}
-use Rattle.drafts.specs.Statements.{book-of, written}
+use Rattle.drafts.specs.Statements.{written}
+use Rattle.drafts.specs.Books.{book_of}
 use Rattle.drafts.specs.Stores.{seen}
-use Rattle.drafts.proofs.Sound.{sound_rules}
+use Rattle.drafts.proofs.Sound.{book_rules}
 use Rattle.trees.proofs.LeftSides.{left_at}
 use Rattle.trees.specs.Rows.{head_symbol, chosen, heads_at, is_head, is_met, put, new_heads}
 
@@ -72,8 +73,8 @@ starts_rule : (f : ℕ) (o : Option Rule) → passes (starts_with f) (mapped (λ
 starts_rule f None = refl
 starts_rule f (Some r) = same_letter r.function f
 
-pub starts_at : (a : Store) (i f : ℕ) (o : Option (List ℕ)) → o ≡ mapped (λ q. q.left) (slice_get (seen a).rules i) → passes (starts_with f) o ≡ passes (λ q. eqb q.function f) (slice_get (book-of (seen a)).rules i)
-starts_at a i f o e = ap (passes (starts_with f)) (e ∙ left_at a i) ∙ starts_rule f (slice_get (book-of (seen a)).rules i)
+pub starts_at : (a : Store) (i f : ℕ) (o : Option (List ℕ)) → o ≡ mapped (λ q. q.left) (slice_get (seen a).rules i) → passes (starts_with f) o ≡ passes (λ q. eqb q.function f) (slice_get (book_of (seen a)).rules i)
+starts_at a i f o e = ap (passes (starts_with f)) (e ∙ left_at a i) ∙ starts_rule f (slice_get (book_of (seen a)).rules i)
 
 -- no rule has a cell at a position
 abbrev pub CellsNone : List ℕ → List Rule → Type 0

@@ -15,9 +15,10 @@ use Rattle.rewriting.proofs.Lists.{mem_kept, kept_mem}
 use Rattle.rewriting.proofs.Occurrences.{mem_map, map_mem}
 use Rattle.drafts.specs.declared.draft.Draft.{Draft as Store}
 use Rattle.drafts.specs.Drafts.{Sides, in_turn, awaited, letters_in, longest_side}
-use Rattle.drafts.specs.Statements.{book-of, written}
+use Rattle.drafts.specs.Statements.{written}
+use Rattle.drafts.specs.Books.{book_of}
 use Rattle.drafts.specs.Stores.{seen}
-use Rattle.drafts.proofs.Sound.{sound_contents, sound_rules}
+use Rattle.drafts.proofs.Sound.{counted_contents, book_rules}
 use Rattle.trees.specs.Growth.{cost}
 use Rattle.trees.specs.Standing.{IsFunction, owed}
 use Rattle.trees.proofs.Places.{nth_below, nth_there, nth_none}
@@ -44,20 +45,20 @@ pub letters : (t : Term) → length (word t) ≡ size t + length (variables t)
 letters t = let a = word_letters t in let b = length-map (occurrences t) (λ (o : Occurrence). o.name) in omega arith
 
 -- no left side of a draft is too long
-pub draft_short : (a : Store) (f : ℕ) → NoLonger (book-of (seen a)) f longest_side
+pub draft_short : (a : Store) (f : ℕ) → NoLonger (book_of (seen a)) f longest_side
 draft_short a f r m =
-    let s = sound_rules a in
-    let i = (kept_mem (λ q. eqb q.function f) (book-of (seen a)).rules m).0 in
+    let s = book_rules a in
+    let i = (kept_mem (λ q. eqb q.function f) (book_of (seen a)).rules m).0 in
     let w : Memᴰ (written r) (seen a).rules = subst (Memᴰ (written r)) s.as_written (mem_map written i) in
     let l = (s.short (written r) w).1 in
     let k = letters (left_side r) in
     omega arith
 
 -- the rules of a function of a draft are sort-correct and left-linear
-draft_right : (a : Store) (f : ℕ) (r : Rule) → Memᴰ r (rules_of (book-of (seen a)) f) → SortCorrect (seen a).signature r × Linear (left_side r)
+draft_right : (a : Store) (f : ℕ) (r : Rule) → Memᴰ r (rules_of (book_of (seen a)) f) → SortCorrect (seen a).signature r × Linear (left_side r)
 draft_right a f r m =
-    let s = sound_rules a in
-    let i = (kept_mem (λ q. eqb q.function f) (book-of (seen a)).rules m).0 in
+    let s = book_rules a in
+    let i = (kept_mem (λ q. eqb q.function f) (book_of (seen a)).rules m).0 in
     (s.sort_correct r i, s.left_linear r i)
 
 -- a symbol that promises a rule has a turn
@@ -76,12 +77,12 @@ in_turn_mem s (q ∷ ps) (suc f) p e h =
     mathlib.Core.List.Memᴰ.append_right (replicate q s) (subst (λ (x : ℕ). Memᴰ x (in_turn (suc s) ps)) i (in_turn_mem (suc s) ps f p e h))
 
 -- where no rule is awaited, each function has one
-pub draft_ruled : (a : Store) (f : ℕ) → awaited (seen a) ≡ None → IsFunction (seen a).signature f → Ruled (book-of (seen a)) f
+pub draft_ruled : (a : Store) (f : ℕ) → awaited (seen a) ≡ None → IsFunction (seen a).signature f → Ruled (book_of (seen a)) f
 draft_ruled a f none h =
     let D = seen a in
-    let B = book-of D in
-    let k = sound_contents a in
-    let s = sound_rules a in
+    let B = book_of D in
+    let k = counted_contents a in
+    let s = book_rules a in
     let l = k.one_each in
     let b = nth_below D.signature.symbols f h.1 in
     let p = nth_there D.promised f (omega arith) in
@@ -125,10 +126,10 @@ owed_letters (r ∷ rs) =
     let l = letters (left_side r) in
     subst (λ (b : Bool). cost longest_side (cond b (r ∷ kept (from_on 0) rs) (kept (from_on 0) rs)) ≤ letters_in (map written (r ∷ rs))) (sym (le-leb 0 r.function (omega arith))) (omega arith)
 
-pub draft_room : (a : Store) → owed (book-of (seen a)) 0 ≤ 1024
+pub draft_room : (a : Store) → owed (book_of (seen a)) 0 ≤ 1024
 draft_room a =
-    let s = sound_rules a in
-    let l = owed_letters (book-of (seen a)).rules in
+    let s = book_rules a in
+    let l = owed_letters (book_of (seen a)).rules in
     let e = ap letters_in s.as_written in
     let r = s.room in
     omega arith

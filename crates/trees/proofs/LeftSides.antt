@@ -27,9 +27,10 @@ use Rattle.rewriting.specs.FixedTree.{constructor, constructor_at, is_there}
 use Rattle.rewriting.specs.Growing.{is_variable, variable_at, all_variables}
 use Rattle.drafts.specs.declared.draft.Draft.{Draft as Store}
 use Rattle.drafts.specs.Drafts.{Sides}
-use Rattle.drafts.specs.Statements.{rule-between, rule-of, rule-before, rules-read, book-of, written, Constructor-term, Constructor-terms}
+use Rattle.drafts.specs.Statements.{written, Pattern, Patterns}
+use Rattle.drafts.specs.Books.{rule_between, rule_of, rule_before, rules_read, book_of}
 use Rattle.drafts.specs.Stores.{seen}
-use Rattle.drafts.proofs.Sound.{sound_rules}
+use Rattle.drafts.proofs.Sound.{book_rules}
 use Rattle.trees.proofs.Places.{nth_map, nth_mem}
 use Rattle.trees.specs.Rows.{letter_in, head_symbol, root_symbol, constructor_symbol, variable_letter, symbol_at}
 
@@ -84,7 +85,7 @@ word_root (con c ts) = (words ts, refl)
 word_root (fun f ts) = (words ts, refl)
 
 -- the left of two terms that are a rule
-between_left : (t u : Term) (r : Rule) → rule-between t u ≡ Some r → t ≡ left_side r
+between_left : (t u : Term) (r : Rule) → rule_between t u ≡ Some r → t ≡ left_side r
 between_left (var v) u r e = absurd (zero_one (cc))
 between_left (con c ts) u r e = absurd (zero_one (cc))
 between_left (fun plus ts) u r e = absurd (zero_one (cc))
@@ -145,80 +146,80 @@ module _ (S : Signature) where
       go (Some u) e = variable_number u (part_fits t p u f e)
 
   -- a rule that words are has a left side that fits
-  rule_fits : (q : Sides) (r : Rule) → rule-of S q ≡ Some r → Fits S (left_side r)
+  rule_fits : (q : Sides) (r : Rule) → rule_of S q ≡ Some r → Fits S (left_side r)
   rule_fits q r h = go (read S q.left) (read S q.right) refl h
     where
-      go : (l m : Option Term) → read S q.left ≡ l → onward l (λ t. onward m (rule-between t)) ≡ Some r → Fits S (left_side r)
+      go : (l m : Option Term) → read S q.left ≡ l → onward l (λ t. onward m (rule_between t)) ≡ Some r → Fits S (left_side r)
       go None m e g = absurd (zero_one (cc))
       go (Some t) None e g = absurd (zero_one (cc))
       go (Some t) (Some u) e g = subst (Fits S) (between_left t u r g) ((reads_back S q.left t).0 e).1
 
-  rules_fit : (qs : List Sides) (r : Rule) → Memᴰ r (rules-read S qs) → Fits S (left_side r)
+  rules_fit : (qs : List Sides) (r : Rule) → Memᴰ r (rules_read S qs) → Fits S (left_side r)
   rules_fit [] r m = elim m [ ]
-  rules_fit (q ∷ qs) r m = go (rule-of S q) refl m (rules_fit qs r)
+  rules_fit (q ∷ qs) r m = go (rule_of S q) refl m (rules_fit qs r)
     where
-      go : (o : Option Rule) → rule-of S q ≡ o → Memᴰ r (rule-before o (rules-read S qs)) → (Memᴰ r (rules-read S qs) → Fits S (left_side r)) → Fits S (left_side r)
+      go : (o : Option Rule) → rule_of S q ≡ o → Memᴰ r (rule_before o (rules_read S qs)) → (Memᴰ r (rules_read S qs) → Fits S (left_side r)) → Fits S (left_side r)
       go None e n h = h n
       go (Some k) e (Memᴰ.head g) h = subst (λ (z : Rule). Fits S (left_side z)) (sym g) (rule_fits q k e)
       go (Some k) e (Memᴰ.tail n) h = h n
 
 -- as many rules as sides, each the words of its rule
-pub rule_count_is : (a : Store) → length (book-of (seen a)).rules ≡ length (seen a).rules
-rule_count_is a = sym (length-map (book-of (seen a)).rules written) ∙ ap length (sound_rules a).as_written
+pub rule_count_is : (a : Store) → length (book_of (seen a)).rules ≡ length (seen a).rules
+rule_count_is a = sym (length-map (book_of (seen a)).rules written) ∙ ap length (book_rules a).as_written
 
-pub left_at : (a : Store) (i : ℕ) → mapped (λ (q : Sides). q.left) (slice_get (seen a).rules i) ≡ mapped (λ (r : Rule). word (left_side r)) (slice_get (book-of (seen a)).rules i)
+pub left_at : (a : Store) (i : ℕ) → mapped (λ (q : Sides). q.left) (slice_get (seen a).rules i) ≡ mapped (λ (r : Rule). word (left_side r)) (slice_get (book_of (seen a)).rules i)
 left_at a i =
-    ap (λ (qs : List Sides). mapped (λ (q : Sides). q.left) (slice_get qs i)) (sym (sound_rules a).as_written)
-    ∙ ap (mapped (λ (q : Sides). q.left)) (nth_map written (book-of (seen a)).rules i)
-    ∙ mapped_mapped (λ (q : Sides). q.left) written (slice_get (book-of (seen a)).rules i)
+    ap (λ (qs : List Sides). mapped (λ (q : Sides). q.left) (slice_get qs i)) (sym (book_rules a).as_written)
+    ∙ ap (mapped (λ (q : Sides). q.left)) (nth_map written (book_of (seen a)).rules i)
+    ∙ mapped_mapped (λ (q : Sides). q.left) written (slice_get (book_of (seen a)).rules i)
 
 -- what the code reads at a position of a rule's left side, if the rule and the part are there
 module _ (a : Store) (p : List ℕ) (i : ℕ) where
-  fits_at : (r : Rule) → slice_get (book-of (seen a)).rules i ≡ Some r → Fits (seen a).signature (left_side r)
-  fits_at r e = rules_fit (seen a).signature (seen a).rules r (nth_mem (book-of (seen a)).rules i e)
+  fits_at : (r : Rule) → slice_get (book_of (seen a)).rules i ≡ Some r → Fits (seen a).signature (left_side r)
+  fits_at r e = rules_fit (seen a).signature (seen a).rules r (nth_mem (book_of (seen a)).rules i e)
 
   -- the word of the left side, and its letter there
   module _ (S : Signature) (s : S ≡ (seen a).signature) (w : Option (List ℕ)) (x : Option ℕ) (e : w ≡ mapped (λ (q : Sides). q.left) (slice_get (seen a).rules i)) (f : x ≡ onward w (letter_in S p)) where
-    left_letter : x ≡ onward (mapped (λ (r : Rule). word (left_side r)) (slice_get (book-of (seen a)).rules i)) (letter_in (seen a).signature p)
-    left_letter = f ∙ ap (λ (o : Option (List ℕ)). onward o (letter_in S p)) (e ∙ left_at a i) ∙ ap (λ (T : Signature). onward (mapped (λ (r : Rule). word (left_side r)) (slice_get (book-of (seen a)).rules i)) (letter_in T p)) s
+    left_letter : x ≡ onward (mapped (λ (r : Rule). word (left_side r)) (slice_get (book_of (seen a)).rules i)) (letter_in (seen a).signature p)
+    left_letter = f ∙ ap (λ (o : Option (List ℕ)). onward o (letter_in S p)) (e ∙ left_at a i) ∙ ap (λ (T : Signature). onward (mapped (λ (r : Rule). word (left_side r)) (slice_get (book_of (seen a)).rules i)) (letter_in T p)) s
 
-    pub left_symbol : onward x (constructor_symbol S) ≡ onward (slice_get (book-of (seen a)).rules i) (symbol_at p)
+    pub left_symbol : onward x (constructor_symbol S) ≡ onward (slice_get (book_of (seen a)).rules i) (symbol_at p)
     left_symbol =
         ap (λ (T : Signature). onward x (constructor_symbol T)) s
         ∙ ap (λ (o : Option ℕ). onward o (constructor_symbol (seen a).signature)) left_letter
-        ∙ go (slice_get (book-of (seen a)).rules i) refl
+        ∙ go (slice_get (book_of (seen a)).rules i) refl
       where
-        go : (o : Option Rule) → slice_get (book-of (seen a)).rules i ≡ o
+        go : (o : Option Rule) → slice_get (book_of (seen a)).rules i ≡ o
             → onward (onward (mapped (λ (r : Rule). word (left_side r)) o) (letter_in (seen a).signature p)) (constructor_symbol (seen a).signature) ≡ onward o (symbol_at p)
         go None h = refl
         go (Some r) h = symbol_part (seen a).signature (left_side r) p (fits_at r h)
 
-    pub left_variable : passes (λ y. variable_letter (letter_of y)) x ≡ passes (variable_at p) (slice_get (book-of (seen a)).rules i)
-    left_variable = ap (passes (λ y. variable_letter (letter_of y))) left_letter ∙ go (slice_get (book-of (seen a)).rules i) refl
+    pub left_variable : passes (λ y. variable_letter (letter_of y)) x ≡ passes (variable_at p) (slice_get (book_of (seen a)).rules i)
+    left_variable = ap (passes (λ y. variable_letter (letter_of y))) left_letter ∙ go (slice_get (book_of (seen a)).rules i) refl
       where
-        go : (o : Option Rule) → slice_get (book-of (seen a)).rules i ≡ o
+        go : (o : Option Rule) → slice_get (book_of (seen a)).rules i ≡ o
             → passes (λ y. variable_letter (letter_of y)) (onward (mapped (λ (r : Rule). word (left_side r)) o) (letter_in (seen a).signature p)) ≡ passes (variable_at p) o
         go None h = refl
         go (Some r) h = variable_part (seen a).signature (left_side r) p (fits_at r h)
 
 -- no left side has a cell
-under_constructor : (c : Head) (ts : Terms) → Constructor-term (con c ts) → Constructor-terms ts
+under_constructor : (c : Head) (ts : Terms) → Pattern (con c ts) → Patterns ts
 under_constructor (cell n) ts h = absurd h
 under_constructor (symbol s) ts h = h
 
-not_cell : (t : Term) (n : ℕ) → Constructor-term t → constructor t ≡ Some (cell n) → ⊥
+not_cell : (t : Term) (n : ℕ) → Pattern t → constructor t ≡ Some (cell n) → ⊥
 not_cell (var v) n h e = zero_one (cc)
 not_cell (con (cell m) ts) n h e = h
 not_cell (con (symbol s) ts) n h e = zero_one (cc)
 not_cell (fun f ts) n h e = h
 
-pub draft_cells : (a : Store) (p : List ℕ) (r : Rule) → Memᴰ r (book-of (seen a)).rules → (n : ℕ) → constructor_at p r ≡ Some (cell n) → ⊥
+pub draft_cells : (a : Store) (p : List ℕ) (r : Rule) → Memᴰ r (book_of (seen a)).rules → (n : ℕ) → constructor_at p r ≡ Some (cell n) → ⊥
 draft_cells a [] r m n e = zero_one (cc)
 draft_cells a (i ∷ p) r m n e = go (part_of r.left i p) refl e
   where
     go : (o : Option Term) → part_of r.left i p ≡ o → onward o constructor ≡ Some (cell n) → ⊥
     go None f g = zero_one (cc)
-    go (Some t) f g = not_cell t n (part_of_has Constructor-term Constructor-terms under_constructor (λ k ts h. absurd h) (λ u ts h. h.0) (λ u ts h. h.1) r.left i p t ((sound_rules a).patterns r m) f) g
+    go (Some t) f g = not_cell t n (part_of_has Pattern Patterns under_constructor (λ k ts h. absurd h) (λ u ts h. h.0) (λ u ts h. h.1) r.left i p t ((book_rules a).patterns r m) f) g
 
 -- the letter that the code reads where the part at a position begins
 item_nth : (xs : List ℕ) (i : ℕ) (r : Option (Bor ℕ)) → IsGetResult xs i i r → Read-of (λ (x : Bor ℕ). x.now) r ≡ slice_get xs i
@@ -252,5 +253,5 @@ module _ (q : Option Rule) (ps : List (List ℕ)) (i : ℕ) where
       go (Some r) = refl
 
 -- a place has a rule where it is below their number
-pub rule_there : (a : Store) (i : ℕ) → is_there (slice_get (book-of (seen a)).rules i) ≡ ltb i (length (seen a).rules)
-rule_there a i = nth_is (book-of (seen a)).rules i ∙ ap (ltb i) (rule_count_is a)
+pub rule_there : (a : Store) (i : ℕ) → is_there (slice_get (book_of (seen a)).rules i) ≡ ltb i (length (seen a).rules)
+rule_there a i = nth_is (book_of (seen a)).rules i ∙ ap (ltb i) (rule_count_is a)

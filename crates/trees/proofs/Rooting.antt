@@ -18,9 +18,9 @@ use Rattle.rewriting.specs.Completeness.{is_complete}
 use Rattle.rewriting.proofs.Growing.{grows_fixed_tree}
 use Rattle.drafts.specs.declared.draft.Draft.{Draft}
 use Rattle.drafts.specs.Drafts.{awaited, longest_side}
-use Rattle.drafts.specs.Statements.{book-of}
+use Rattle.drafts.specs.Books.{book_of}
 use Rattle.drafts.specs.Stores.{seen, verdict}
-use Rattle.drafts.proofs.Sound.{sound_contents}
+use Rattle.drafts.proofs.Sound.{sound_contents, counted_contents}
 use Rattle.trees.specs.declared.fault.CheckFault.{CheckFault}
 use Rattle.trees.specs.declared.fault.CheckFault.TheVariants.{NoTree, Incomplete}
 use Rattle.trees.specs.declared.node.Node.{Node}
@@ -60,9 +60,9 @@ call_open f e l g = e ∙ ap (below [] 1) (l ∙ ap (λ (x : Signature). length 
 
 -- the tree of a function of a draft is grown from its call
 module _ (d : Draft) (f : ℕ) (whole : awaited (seen d) ≡ None) (h : IsFunction (seen d).signature f) (ps : List (List ℕ)) (ms : List Bool)
-    (e : ps ≡ open_call (seen d).signature f) (m : chosen ms (book-of (seen d)).rules ≡ rules_of (book-of (seen d)) f) where
+    (e : ps ≡ open_call (seen d).signature f) (m : chosen ms (book_of (seen d)).rules ≡ rules_of (book_of (seen d)) f) where
   abbrev B : Book
-  B = book-of (seen d)
+  B = book_of (seen d)
 
   pub function_stage : AtStage B longest_side ps (chosen ms B.rules)
   function_stage =
@@ -167,7 +167,7 @@ function_stands d f h = (h.0.0, h.0.1, role h.0.0.role refl)
     role : (o : Role) → h.0.0.role ≡ o → h.0.0.role ≡ Function
     role Constructor e = let a = h.0.2 in let b = ap is_constructor e in absurd (zero_one (cc))
     role Function e = e
-    role Operation e = let l = (sound_contents d).operations f h.0.0 h.0.1 e in let m = three f h.1 in absurd (omega arith)
+    role Operation e = let l = (counted_contents d).operations f h.0.0 h.0.1 e in let m = three f h.1 in absurd (omega arith)
 
 -- and back
 pub stands_function : (d : Draft) (f : ℕ) → IsFunction (seen d).signature f → Stands (seen d).signature (call (own f))
@@ -175,7 +175,7 @@ stands_function d f h =
     let S = (seen d).signature in
     let k = sound_contents d in
     let l = nth_below S.symbols f h.1 in
-    let m = k.few-symbols in
+    let m = (counted_contents d).few_symbols in
     ((h.0, h.1, ap is_constructor h.2, omega arith), go f h)
   where
     operation : (n : ℕ) (b : Declaration) → slice_get built_in.symbols n ≡ Some b → b.role ≡ Operation → IsFunction (seen d).signature n → ⊥

@@ -1,7 +1,8 @@
 -- Loops over the symbols that rules have at a position, and over the symbols of a signature.
-use Rattle.std.proofs.Common.{◌≡◌, ℕ, zero, suc, ◌+◌, ◌^◌, ◌<◌, ◌≤◌, Bool, true, false, cond, not, ◌&&◌, ◌||◌, eqb, ltb, leb, List, [], ◌∷◌, ◌++◌, map, length, get_or, take, drop, set, Some, None, Decides, Option, unwrap_or, sym, refl, ap, ◌∙◌, inl, inr, add-one, arith, MatchOption}
+use Rattle.std.proofs.Common.{◌≡◌, ℕ, zero, suc, ◌+◌, ◌^◌, ◌<◌, ◌≤◌, Bool, true, false, cond, not, ◌&&◌, ◌||◌, eqb, ltb, leb, List, [], ◌∷◌, ◌++◌, map, length, get_or, take, drop, set, Some, None, Option, unwrap_or, sym, refl, ap, ◌∙◌, inl, inr, add-one, arith}
 use mathlib.Core.Bool.{or_assoc}
 use Rattle.std.specs.List.{slice_get}
+use Rattle.std.specs.Option.{option_eq}
 use Rattle.std.proofs.lemmas.List.{at_drop_more, at_drop_all, take_more, take_more_set, map_more}
 use Rattle.std.proofs.lemmas.Option.{slice_get_past}
 use Rattle.std.proofs.lemmas.Bool.{cond-false, eq-eqb, ne_eqb, eqb-true, cases_lt, le-ltb, lt-leb, and_left, or_cases, or_parts}
@@ -23,9 +24,9 @@ use Rattle.rewriting.specs.Completeness.{is_among, makes, is_met as meets, all_m
 use Rattle.trees.specs.Rows.{is_head, is_met, new_head, put, new_heads, there}
 
 -- the code's comparison with a symbol is the test of a place
-pub compares : (h : Option ℕ) (s : ℕ) (r : Bool) → MatchOption h (r ≡ false) (λ x. Decides r (x ≡ s)) → r ≡ is_head s h
+pub compares : (h : Option ℕ) (s : ℕ) (r : Bool) → r ≡ option_eq eqb h (Some s) → r ≡ is_head s h
 compares None s r e = e
-compares (Some x) s r e = same_from_decides r (eqb s x) e (Decides-like (eqb s x) sym sym (Decides-eqb s x))
+compares (Some x) s r e = e ∙ same_from_decides (eqb x s) (eqb s x) (Decides-eqb x s) (Decides-like (eqb s x) sym sym (Decides-eqb s x))
 
 -- an array that is written from the front is the map of another
 pub written_more : {A B : Type 0} (f : A → B) (xs : List A) (ys : List B) (i : ℕ) (d : A) (y : B) → i < length xs → i < length ys → take i ys ≡ map f (take i xs) → y ≡ f (get_or xs i d)

@@ -10,7 +10,7 @@ use Rattle.rewriting.specs.Trees.{Node}
 use Rattle.rewriting.specs.FixedTree.{or_else, fixed_tree}
 use Rattle.rewriting.specs.Completeness.{is_complete}
 use Rattle.drafts.specs.Drafts.{Draft, awaited}
-use Rattle.drafts.specs.Statements.{book-of}
+use Rattle.drafts.specs.Books.{book_of}
 use Rattle.trees.specs.declared.fault.CheckFault.{CheckFault}
 use Rattle.trees.specs.declared.fault.CheckFault.TheVariants.{RulesMissing, NoTree, Incomplete}
 
@@ -43,4 +43,4 @@ first_fault B s (d ∷ ds) = or_else (symbol_fault B s d.role) (first_fault B (s
 
 -- 22 where a rule is awaited, and then the first function at fault
 abbrev pub check_fault : Draft → Option CheckFault
-check_fault D = or_else (mapped RulesMissing (awaited D)) (first_fault (book-of D) 0 D.signature.symbols)
+check_fault D = or_else (mapped RulesMissing (awaited D)) (first_fault (book_of D) 0 D.signature.symbols)

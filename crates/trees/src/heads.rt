@@ -6,7 +6,7 @@ ghost use Rattle.terms.specs.Sorting.{head_sort};
 ghost use Rattle.terms.specs.Views.{view};
 ghost use Rattle.rewriting.specs.FixedTree.{all_have, first_shared};
 ghost use Rattle.rewriting.specs.Completeness.{makes as makes-sort};
-ghost use Rattle.drafts.specs.Statements.{book-of};
+ghost use Rattle.drafts.specs.Books.{book_of};
 ghost use Rattle.drafts.specs.Stores.{seen};
 ghost use Rattle.trees.specs.Views.{steps_of};
 ghost use Rattle.trees.specs.Opens.{open_of};
@@ -28,7 +28,7 @@ pub(crate) type Heads = [Option<u8>; MOST_RULES];
 // The symbols at a position, if every rule that remains has one there.
 fn shared_heads(signature: &Signature, draft: &Draft, path: &Path, remain: &Mask) -> Option<Heads>
     requires { view signature.now ≡ (seen draft.now).signature }
-    ensures { result ≡ (if all_have (steps_of path.now) (chosen remain.now (book-of (seen draft.now)).rules) then Some (heads_at (steps_of path.now) remain.now (book-of (seen draft.now)).rules) else None) }
+    ensures { result ≡ (if all_have (steps_of path.now) (chosen remain.now (book_of (seen draft.now)).rules) then Some (heads_at (steps_of path.now) remain.now (book_of (seen draft.now)).rules) else None) }
 {
     let mut heads = [None; MOST_RULES];
     for i in 0..draft.rule_count() {
@@ -47,7 +47,7 @@ pub(crate) fn first_shared(
     remain: &Mask,
 ) -> Option<Shared>
     requires { view signature.now ≡ (seen draft.now).signature }
-    ensures { IsShared (book-of (seen draft.now)).rules remain.now (first_shared (open_of positions.now) (chosen remain.now (book-of (seen draft.now)).rules)) result }
+    ensures { IsShared (book_of (seen draft.now)).rules remain.now (first_shared (open_of positions.now) (chosen remain.now (book_of (seen draft.now)).rules)) result }
 {
     for i in 0..positions.len() {
         let path = positions.path(i);

@@ -5,7 +5,7 @@ ghost use Rattle.terms.specs.Options.{onward, passes};
 ghost use Rattle.terms.specs.Letters.{letter_of};
 ghost use Rattle.terms.specs.Views.{view};
 ghost use Rattle.rewriting.specs.Growing.{variable_at, all_variables};
-ghost use Rattle.drafts.specs.Statements.{book-of};
+ghost use Rattle.drafts.specs.Books.{book_of};
 ghost use Rattle.drafts.specs.Stores.{seen};
 ghost use Rattle.trees.specs.Views.{steps_of};
 ghost use Rattle.trees.specs.Opens.{open_of};
@@ -47,7 +47,7 @@ pub(crate) fn symbol_at(
     path: &Path,
 ) -> Option<u8>
     requires { view signature.now ≡ (seen draft.now).signature }
-    ensures { result ≡ onward (slice_get (book-of (seen draft.now)).rules rule) (symbol_at (steps_of path.now)) }
+    ensures { result ≡ onward (slice_get (book_of (seen draft.now)).rules rule) (symbol_at (steps_of path.now)) }
 {
     let letter = letter_at(signature, draft.left(rule)?, path)?;
     constructor_symbol(signature, letter)
@@ -56,7 +56,7 @@ pub(crate) fn symbol_at(
 // Whether a rule's left side has a variable at a position.
 fn is_variable_at(signature: &Signature, draft: &Draft, rule: usize, path: &Path) -> bool
     requires { view signature.now ≡ (seen draft.now).signature }
-    ensures { result ≡ passes (variable_at (steps_of path.now)) (slice_get (book-of (seen draft.now)).rules rule) }
+    ensures { result ≡ passes (variable_at (steps_of path.now)) (slice_get (book_of (seen draft.now)).rules rule) }
 {
     let Some(left) = draft.left(rule) else {
         return false;
@@ -84,7 +84,7 @@ pub(crate) fn all_variables(
     positions: &Open,
 ) -> bool
     requires { view signature.now ≡ (seen draft.now).signature }
-    ensures { result ≡ passes (all_variables (open_of positions.now)) (slice_get (book-of (seen draft.now)).rules rule) }
+    ensures { result ≡ passes (all_variables (open_of positions.now)) (slice_get (book_of (seen draft.now)).rules rule) }
 {
     for i in 0..positions.len() {
         if !is_variable_at(signature, draft, rule, &positions.path(i)) {

@@ -2,7 +2,7 @@
 ghost use Rattle.std.specs.Prelude.{◌≡◌, ◌+◌, ◌<◌, ◌≤◌, [], ◌∷◌, ◌++◌, length};
 ghost use Rattle.terms.specs.Views.{view};
 ghost use Rattle.rewriting.specs.Growing.{grow as the-grown};
-ghost use Rattle.drafts.specs.Statements.{book-of};
+ghost use Rattle.drafts.specs.Books.{book_of};
 ghost use Rattle.drafts.specs.Stores.{seen};
 ghost use Rattle.trees.specs.Opens.{open_of};
 ghost use Rattle.trees.specs.Rows.{chosen};
@@ -57,10 +57,10 @@ impl Store {
         fuel: usize,
     ) -> Option<Grown>
         requires same { view signature.now ≡ (seen draft.now).signature }
-        requires stage { AtStage (book-of (seen draft.now)) fuel (open_of positions.now) (chosen remain.now (book-of (seen draft.now)).rules) }
-        requires room { self.old.count + cost fuel (chosen remain.now (book-of (seen draft.now)).rules) ≤ 1024 }
-        ensures added { Added self.old self.new (cost fuel (chosen remain.now (book-of (seen draft.now)).rules)) }
-        ensures grown { IsGrown (seen draft.now).signature (book-of (seen draft.now)).rules (nodes_of self.new) (the-grown (seen draft.now).signature fuel (open_of positions.now) (chosen remain.now (book-of (seen draft.now)).rules)) result }
+        requires stage { AtStage (book_of (seen draft.now)) fuel (open_of positions.now) (chosen remain.now (book_of (seen draft.now)).rules) }
+        requires room { self.old.count + cost fuel (chosen remain.now (book_of (seen draft.now)).rules) ≤ 1024 }
+        ensures added { Added self.old self.new (cost fuel (chosen remain.now (book_of (seen draft.now)).rules)) }
+        ensures grown { IsGrown (seen draft.now).signature (book_of (seen draft.now)).rules (nodes_of self.new) (the-grown (seen draft.now).signature fuel (open_of positions.now) (chosen remain.now (book_of (seen draft.now)).rules)) result }
     {
         if let Some(rule) = sole_open(signature, draft, positions, remain) {
             return Some(Grown {

@@ -3,7 +3,7 @@ ghost use Rattle.std.specs.Prelude.{◌≡◌, ◌+◌, ◌^◌, ◌<◌, ◌≤
 ghost use Rattle.terms.specs.Roots.{role_of};
 ghost use Rattle.terms.specs.Views.{view};
 ghost use Rattle.drafts.specs.Drafts.{awaited};
-ghost use Rattle.drafts.specs.Statements.{book-of};
+ghost use Rattle.drafts.specs.Books.{book_of};
 ghost use Rattle.drafts.specs.Stores.{seen, verdict};
 ghost use Rattle.rewriting.specs.FixedTree.{fixed_tree};
 ghost use Rattle.trees.specs.Checks.{function_role, judged, fault_at, check_fault};
@@ -35,7 +35,7 @@ impl Trees {
     // The trees of a draft's functions, or why there is one without.
     pub fn of(draft: &Draft) -> Result<Trees, CheckFault>
         ensures fault { refusal result ≡ check_fault (seen draft.now) }
-        ensures rooted { IfOk result (AllRooted (book-of (seen draft.now))) }
+        ensures rooted { IfOk result (AllRooted (book_of (seen draft.now))) }
     {
         if let Some(function) = draft.awaited() {
             return Err(CheckFault::RulesMissing(function));
@@ -58,9 +58,9 @@ impl Trees {
         requires same { view signature.now ≡ (seen draft.now).signature }
         requires whole { awaited (seen draft.now) ≡ None }
         requires declared { symbol < length (seen draft.now).signature.symbols }
-        requires room { length (nodes_in self.old) + owed (book-of (seen draft.now)) symbol ≤ 1024 }
-        ensures fault { result ≡ verdict (fault_at (book-of (seen draft.now)) symbol) tt }
-        ensures added { OnOk result (TreeAdded (book-of (seen draft.now)) symbol self.old self.new) }
+        requires room { length (nodes_in self.old) + owed (book_of (seen draft.now)) symbol ≤ 1024 }
+        ensures fault { result ≡ verdict (fault_at (book_of (seen draft.now)) symbol) tt }
+        ensures added { OnOk result (TreeAdded (book_of (seen draft.now)) symbol self.old self.new) }
     {
         if is_function(signature, symbol) {
             self.add_function(signature, draft, symbol)
@@ -79,9 +79,9 @@ impl Trees {
         requires same { view signature.now ≡ (seen draft.now).signature }
         requires whole { awaited (seen draft.now) ≡ None }
         requires function { IsFunction (seen draft.now).signature function }
-        requires room { length (nodes_in self.old) + owed (book-of (seen draft.now)) function ≤ 1024 }
-        ensures fault { result ≡ verdict (judged (seen draft.now).signature function (fixed_tree (book-of (seen draft.now)) function)) tt }
-        ensures added { OnOk result (TreeAdded (book-of (seen draft.now)) function self.old self.new) }
+        requires room { length (nodes_in self.old) + owed (book_of (seen draft.now)) function ≤ 1024 }
+        ensures fault { result ≡ verdict (judged (seen draft.now).signature function (fixed_tree (book_of (seen draft.now)) function)) tt }
+        ensures added { OnOk result (TreeAdded (book_of (seen draft.now)) function self.old self.new) }
     {
         let open = Open::of_call(arity_of(signature, function));
         let rules = rules_of(draft, function);

@@ -1,7 +1,7 @@
 use Rattle.std.proofs.Common.{◌≡◌, ℕ, ◌+◌, ◌<◌, Bool, true, false, cond, length, replicate, Some, None, sym, refl, ap, ◌∙◌, subst, arith, rules}
-use Rattle.drafts.specs.Statements.{book-of}
+use Rattle.drafts.specs.Books.{book_of}
 use Rattle.drafts.specs.Stores.{seen}
-use Rattle.drafts.proofs.Sound.{sound_rules}
+use Rattle.drafts.proofs.Sound.{book_rules}
 use Rattle.trees.specs.Views.{steps_of}
 use Rattle.trees.specs.Rows.{heads_at}
 use Rattle.trees.proofs.LeftSides.{rule_count_is}
@@ -14,16 +14,16 @@ pub loop-i-init : goal.loop-i-init
 loop-i-init c =
     let d = c.args.draft.now in
     let long : length c.args.remain.now ≡ 96 = search rules in
-    shared_none_yet (steps_of c.args.path.now) c.args.remain.now (book-of (seen d)).rules (draft_cells d (steps_of c.args.path.now)) (replicate 96 None) (sym long) (λ k. getD_replicate_same 96 k)
+    shared_none_yet (steps_of c.args.path.now) c.args.remain.now (book_of (seen d)).rules (draft_cells d (steps_of c.args.path.now)) (replicate 96 None) (sym long) (λ k. getD_replicate_same 96 k)
 
 pub returns-in_err-symbol_at : goal.returns-in_err-symbol_at
 returns-in_err-symbol_at c =
     let d = c.args.draft.now in
     let p = steps_of c.args.path.now in
     let m = c.args.remain.now in
-    let R = (book-of (seen d)).rules in
+    let R = (book_of (seen d)).rules in
     let i = c.loop-i.i in
-    let few = (sound_rules d).few-rules in
+    let few = (book_rules d).few_rules in
     let n = rule_count_is d in
     let long : length m ≡ 96 = search rules in
     let l : i < length m = omega (arith, c.loop-i-test.true, c.rule_count-i-end.ensures.value) in
@@ -36,9 +36,9 @@ loop-i-preserved c =
     let d = c.args.draft.now in
     let p = steps_of c.args.path.now in
     let m = c.args.remain.now in
-    let R = (book-of (seen d)).rules in
+    let R = (book_of (seen d)).rules in
     let i = c.loop-i.i in
-    let few = (sound_rules d).few-rules in
+    let few = (book_rules d).few_rules in
     let n = rule_count_is d in
     let long : length m ≡ 96 = search rules in
     let l : i < length m = omega (arith, c.loop-i-test.true, c.rule_count-i-end.ensures.value) in
@@ -52,4 +52,4 @@ pub returns : goal.returns
 returns c =
     let d = c.args.draft.now in
     let n = rule_count_is d in
-    shared_all (steps_of c.args.path.now) c.args.remain.now (book-of (seen d)).rules (draft_cells d (steps_of c.args.path.now)) c.loop-i.i c.loop-i.heads (omega (arith, c.loop-i-test.false, c.rule_count-i-end.ensures.value)) c.loop-i.invariant
+    shared_all (steps_of c.args.path.now) c.args.remain.now (book_of (seen d)).rules (draft_cells d (steps_of c.args.path.now)) c.loop-i.i c.loop-i.heads (omega (arith, c.loop-i-test.false, c.rule_count-i-end.ensures.value)) c.loop-i.invariant

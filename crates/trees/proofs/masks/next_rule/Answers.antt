@@ -1,7 +1,7 @@
 use Rattle.std.proofs.Common.{true, false, sym, ◌∙◌, arith}
-use Rattle.drafts.specs.Statements.{book-of}
+use Rattle.drafts.specs.Books.{book_of}
 use Rattle.drafts.specs.Stores.{seen}
-use Rattle.drafts.proofs.Sound.{sound_rules}
+use Rattle.drafts.proofs.Sound.{book_rules}
 use Rattle.trees.proofs.Places.{nth_there}
 use Rattle.trees.proofs.LeftSides.{rule_count_is}
 use Rattle.trees.proofs.Chosen.{chosen_more, chosen_end}
@@ -10,10 +10,10 @@ use Rattle.trees.proofs.masks.next_rule.Goals as goal
 pub returns-then-remain-i : goal.returns-then-remain-i
 returns-then-remain-i c =
     let a = c.args.draft.now in
-    let R = (book-of (seen a)).rules in
+    let R = (book_of (seen a)).rules in
     let i = c.loop-i.i in
     let n = rule_count_is a in
-    let l = (sound_rules a).few-rules in
+    let l = (book_rules a).few_rules in
     let t = c.rule_count-i-end.ensures.value in
     let r = nth_there R i (omega arith) in
     (r.0, r.1, c.loop-i.invariant ∙ chosen_more i c.args.remain.now R true false r.0 (omega arith) r.1 (sym c.if-remain-i.true))
@@ -21,10 +21,10 @@ returns-then-remain-i c =
 pub loop-i-preserved : goal.loop-i-preserved
 loop-i-preserved c =
     let a = c.args.draft.now in
-    let R = (book-of (seen a)).rules in
+    let R = (book_of (seen a)).rules in
     let i = c.loop-i.i in
     let n = rule_count_is a in
-    let l = (sound_rules a).few-rules in
+    let l = (book_rules a).few_rules in
     let t = c.rule_count-i-end.ensures.value in
     let r = nth_there R i (omega arith) in
     c.loop-i.invariant ∙ chosen_more i c.args.remain.now R false false r.0 (omega arith) r.1 (sym c.if-remain-i.false)
@@ -34,4 +34,4 @@ returns c =
     let a = c.args.draft.now in
     let n = rule_count_is a in
     let t = c.rule_count-i-end.ensures.value in
-    c.loop-i.invariant ∙ chosen_end c.loop-i.i c.args.remain.now (book-of (seen a)).rules (omega arith)
+    c.loop-i.invariant ∙ chosen_end c.loop-i.i c.args.remain.now (book_of (seen a)).rules (omega arith)

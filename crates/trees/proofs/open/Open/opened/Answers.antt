@@ -5,7 +5,7 @@ use Rattle.trees.specs.Views.{steps_of}
 use Rattle.trees.specs.Opens.{open_of}
 use Rattle.trees.proofs.Opens.{length_open, length_below, opened_more, opened_step, opened_room}
 use Rattle.trees.proofs.open.Open.opened.Goals as goal
-use Rattle.trees.proofs.open.Open.opened.Goals.{then_is, else_is}
+use Rattle.trees.proofs.open.Open.opened.Goals.{then-is, else-is}
 
 pub loop-i-init : goal.loop-i-init
 loop-i-init c = ap (λ (ps : List (List ℕ)). ps ++ opened (open_of c.args.self.now) (steps_of c.args.path.now) c.args.arity) c.none-open.ensures
@@ -30,8 +30,8 @@ loop-i-preserved c =
     let o = c.args.self.now in
     let p = steps_of c.args.path.now in
     elim c.if-is.branch [
-      | then_is w ↦ opened_step (open_of c.loop-i.open) _ _ _ _ c.loop-i.invariant (opened_more o c.loop-i.i c.index-self-i.result p c.args.arity true c.loop-i-test.true w.if-is.ensures) _ (ap open_of w.open-is ∙ w.push_below.ensures)
-      | else_is w ↦ opened_step (open_of c.loop-i.open) _ _ _ _ c.loop-i.invariant (opened_more o c.loop-i.i c.index-self-i.result p c.args.arity false c.loop-i-test.true w.if-is.ensures) _ (ap open_of w.open-is ∙ w.push.ensures)
+      | then-is w ↦ opened_step (open_of c.loop-i.open) _ _ _ _ c.loop-i.invariant (opened_more o c.loop-i.i c.index-self-i.result p c.args.arity true c.loop-i-test.true w.if-is.ensures) _ (ap open_of w.open-is ∙ w.push_below.ensures)
+      | else-is w ↦ opened_step (open_of c.loop-i.open) _ _ _ _ c.loop-i.invariant (opened_more o c.loop-i.i c.index-self-i.result p c.args.arity false c.loop-i-test.true w.if-is.ensures) _ (ap open_of w.open-is ∙ w.push.ensures)
     ]
 
 pub returns : goal.returns

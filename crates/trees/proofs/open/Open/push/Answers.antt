@@ -15,7 +15,7 @@ pub invariant_of-self : goal.invariant_of-self
 invariant_of-self c =
     let o = c.args.self.now in
     let l = length_open o in
-    (length-set o.paths o.count c.args.path ∙ o.long, omega (arith, c.requires))
+    record { long = length-set o.paths o.count c.args.path ∙ o.long; fits = omega (arith, c.requires) }
 
 pub returns : goal.returns
 returns c =

@@ -5,7 +5,7 @@ use Rattle.terms.specs.Roots.{head_args}
 use Rattle.terms.specs.Views.{view}
 use Rattle.rewriting.specs.FixedTree.{first_shared}
 use Rattle.rewriting.specs.Growing.{sole_open, opened, grow}
-use Rattle.drafts.specs.Statements.{book-of}
+use Rattle.drafts.specs.Books.{book_of}
 use Rattle.drafts.specs.Stores.{seen}
 use Rattle.trees.specs.declared.shared.Shared.{Shared}
 use Rattle.trees.specs.Views.{steps_of}
@@ -24,7 +24,7 @@ use Rattle.trees.proofs.store.Store.+grow.Goals.{then-complete, else-complete, t
 pub returns-in-Some : goal.returns-in-Some
 returns-in-Some t c =
     let d = c.args.draft.now in
-    let B = book-of (seen d) in
+    let B = book_of (seen d) in
     let ps = open_of c.args.positions.now in
     let rs = chosen c.args.remain.now B.rules in
     let x = place_some B.rules (sole_open ps rs) c.in-Some.rule c.in-Some.ensures in
@@ -36,7 +36,7 @@ returns-in-Some t c =
 pub returns-in_err-shared : goal.returns-in_err-shared
 returns-in_err-shared t c =
     let d = c.args.draft.now in
-    let B = book-of (seen d) in
+    let B = book_of (seen d) in
     let ps = open_of c.args.positions.now in
     let m = c.args.remain.now in
     let rs = chosen m B.rules in
@@ -50,7 +50,7 @@ returns-in_err-shared t c =
 pub loop-i-init : goal.loop-i-init
 loop-i-init t c =
     let d = c.args.draft.now in
-    let B = book-of (seen d) in
+    let B = book_of (seen d) in
     let ps = open_of c.args.positions.now in
     let m = c.args.remain.now in
     let n = c.args.fuel in
@@ -62,7 +62,7 @@ loop-i-init t c =
 pub loop-i-preserved : goal.loop-i-preserved
 loop-i-preserved t c =
     let d = c.args.draft.now in
-    let B = book-of (seen d) in
+    let B = book_of (seen d) in
     let ps = open_of c.args.positions.now in
     let m = c.args.remain.now in
     let n = c.args.fuel in
@@ -77,7 +77,7 @@ loop-i-preserved t c =
 pub opened-below-requires : goal.opened-below-requires
 opened-below-requires t c =
     let d = c.args.draft.now in
-    let B = book-of (seen d) in
+    let B = book_of (seen d) in
     let ps = open_of c.args.positions.now in
     let m = c.args.remain.now in
     let n = c.args.fuel in
@@ -100,12 +100,12 @@ opened-below-requires t c =
 pub overflow_sub-fuel : goal.overflow_sub-fuel
 overflow_sub-fuel t c =
     let d = c.args.draft.now in
-    fuel_left (book-of (seen d)) (draft_short d) c.args.fuel (open_of c.args.positions.now) (chosen c.args.remain.now (book-of (seen d)).rules) c.requires.stage
+    fuel_left (book_of (seen d)) (draft_short d) c.args.fuel (open_of c.args.positions.now) (chosen c.args.remain.now (book_of (seen d)).rules) c.requires.stage
 
 pub grow-requires : goal.grow-requires
 grow-requires t c =
     let d = c.args.draft.now in
-    let B = book-of (seen d) in
+    let B = book_of (seen d) in
     let ps = open_of c.args.positions.now in
     let m = c.args.remain.now in
     let n = c.args.fuel in
@@ -126,7 +126,7 @@ grow-requires t c =
 pub returns-in_err-child : goal.returns-in_err-child
 returns-in_err-child t c =
     let d = c.args.draft.now in
-    let B = book-of (seen d) in
+    let B = book_of (seen d) in
     let ps = open_of c.args.positions.now in
     let m = c.args.remain.now in
     let n = c.args.fuel in
@@ -154,7 +154,7 @@ returns-in_err-child t c =
 pub push-requires : goal.push-requires
 push-requires t c =
     let d = c.args.draft.now in
-    let B = book-of (seen d) in
+    let B = book_of (seen d) in
     let ps = open_of c.args.positions.now in
     let m = c.args.remain.now in
     let n = c.args.fuel in
@@ -173,7 +173,7 @@ push-requires t c =
 pub loop-i-preserved-in-Some-new_head : goal.loop-i-preserved-in-Some-new_head
 loop-i-preserved-in-Some-new_head t c =
     let d = c.args.draft.now in
-    let B = book-of (seen d) in
+    let B = book_of (seen d) in
     let ps = open_of c.args.positions.now in
     let m = c.args.remain.now in
     let n = c.args.fuel in
@@ -206,7 +206,7 @@ loop-i-preserved-in-Some-new_head t c =
 pub covers-covered-requires : goal.covers-covered-requires
 covers-covered-requires t c =
     let d = c.args.draft.now in
-    let B = book-of (seen d) in
+    let B = book_of (seen d) in
     let ps = open_of c.args.positions.now in
     let m = c.args.remain.now in
     let n = c.args.fuel in
@@ -220,7 +220,7 @@ covers-covered-requires t c =
 pub returns : goal.returns
 returns t c =
     let d = c.args.draft.now in
-    let B = book-of (seen d) in
+    let B = book_of (seen d) in
     let ps = open_of c.args.positions.now in
     let m = c.args.remain.now in
     let n = c.args.fuel in

@@ -1,4 +1,4 @@
-use Rattle.drafts.specs.Statements.{book-of}
+use Rattle.drafts.specs.Books.{book_of}
 use Rattle.drafts.specs.Stores.{seen}
 use Rattle.trees.specs.Views.{steps_of}
 use Rattle.trees.specs.Opens.{open_of}
@@ -9,4 +9,4 @@ abbrev pub decreases-grow : goal.decreases-grow
 decreases-grow l = l.fuel
 
 abbrev pub invariant-loop-i : goal.invariant-loop-i
-invariant-loop-i l = GrownTo (book-of (seen l.draft)) (open_of l.positions) l.remain l.fuel (steps_of l.shared.path) l.shared.heads l.i l.initial.self l.self l.children l.complete
+invariant-loop-i l = GrownTo (book_of (seen l.draft)) (open_of l.positions) l.remain l.fuel (steps_of l.shared.path) l.shared.heads l.i l.initial.self l.self l.children l.complete

@@ -3,9 +3,9 @@ use Rattle.std.proofs.lemmas.Bool.{not-true, not-false}
 use Rattle.rewriting.specs.FixedTree.{fixed_tree}
 use Rattle.rewriting.specs.Growing.{open_call, grow}
 use Rattle.drafts.specs.Drafts.{longest_side}
-use Rattle.drafts.specs.Statements.{book-of}
+use Rattle.drafts.specs.Books.{book_of}
 use Rattle.drafts.specs.Stores.{seen}
-use Rattle.drafts.proofs.Sound.{sound_contents}
+use Rattle.drafts.proofs.Sound.{counted_contents}
 use Rattle.trees.specs.Opens.{open_of}
 use Rattle.trees.specs.Rows.{chosen}
 use Rattle.trees.specs.Growth.{nodes_of, cost}
@@ -35,7 +35,7 @@ grow-requires c =
 pub returns-in_default : goal.returns-in_default
 returns-in_default c =
     let d = c.args.draft.now in
-    let B = book-of (seen d) in
+    let B = book_of (seen d) in
     let S = (seen d).signature in
     let f = c.args.function in
     let ps = open_of c.of_call-open.result in
@@ -48,7 +48,7 @@ returns-in_default c =
 pub returns-then-not-grown : goal.returns-then-not-grown
 returns-then-not-grown c =
     let d = c.args.draft.now in
-    let B = book-of (seen d) in
+    let B = book_of (seen d) in
     let S = (seen d).signature in
     let f = c.args.function in
     let ps = open_of c.of_call-open.result in
@@ -72,14 +72,14 @@ push-root-requires c =
 pub bounds-self-function : goal.bounds-self-function
 bounds-self-function c =
     let d = c.args.draft.now in
-    let k = (sound_contents d).few-symbols in
+    let k = (counted_contents d).few_symbols in
     let l = nth_below (seen d).signature.symbols c.args.function c.requires.function.1 in
     omega arith
 
 pub returns : goal.returns
 returns c =
     let d = c.args.draft.now in
-    let B = book-of (seen d) in
+    let B = book_of (seen d) in
     let S = (seen d).signature in
     let f = c.args.function in
     let ps = open_of c.of_call-open.result in
@@ -89,7 +89,7 @@ returns c =
     let r = function_room d f c.requires.whole c.requires.function ps ms e c.rules_of-rules.ensures in
     let z = c.in-Some.ensures in
     let g = grown_some S B.rules (nodes_of c.grow.new.self) (grow S longest_side ps (chosen ms B.rules)) c.in-Some.grown z.grown in
-    let l : f < length c.args.self.now.roots = (let k = (sound_contents d).few-symbols in let n = nth_below S.symbols f c.requires.function.1 in let w = c.args.self.now.long in omega arith) in
+    let l : f < length c.args.self.now.roots = (let k = (counted_contents d).few_symbols in let n = nth_below S.symbols f c.requires.function.1 in let w = c.args.self.now.long in omega arith) in
     let yes : c.in-Some.grown.complete ≡ true = not-false c.in-Some.grown.complete c.if-not-grown.false in
     record {
       fault = complete tt S f (fixed_tree B f) g.0 (sym t ∙ g.1) (sym g.3 ∙ yes);

@@ -4,7 +4,7 @@ use Rattle.terms.specs.Options.{mapped}
 use Rattle.terms.specs.Signatures.{Declaration, Signature}
 use Rattle.rewriting.specs.FixedTree.{or_else}
 use Rattle.drafts.specs.Drafts.{awaited}
-use Rattle.drafts.specs.Statements.{book-of}
+use Rattle.drafts.specs.Books.{book_of}
 use Rattle.drafts.specs.Stores.{seen}
 use Rattle.drafts.proofs.Verdicts.{refused, passed}
 use Rattle.trees.specs.declared.fault.CheckFault.{CheckFault}
@@ -34,7 +34,7 @@ add_tree-requires c =
 pub returns-in_err-add_tree : goal.returns-in_err-add_tree
 returns-in_err-add_tree c =
     let d = c.args.draft.now in
-    let B = book-of (seen d) in
+    let B = book_of (seen d) in
     let s = c.loop-symbol.symbol in
     let n : c.symbol_count-symbol-end.result ≡ length (seen d).signature.symbols = c.symbol_count-symbol-end.ensures ∙ ap (λ (S : Signature). length S.symbols) c.signature-signature.ensures.value in
     let p = err_from_is_err_and c.from_residual.result c.from_residual.ensures.1 in
@@ -49,7 +49,7 @@ returns-in_err-add_tree c =
 pub loop-symbol-preserved : goal.loop-symbol-preserved
 loop-symbol-preserved c =
     let d = c.args.draft.now in
-    let B = book-of (seen d) in
+    let B = book_of (seen d) in
     let s = c.loop-symbol.symbol in
     let n : c.symbol_count-symbol-end.result ≡ length (seen d).signature.symbols = c.symbol_count-symbol-end.ensures ∙ ap (λ (S : Signature). length S.symbols) c.signature-signature.ensures.value in
     let z = c.in_ok-add_tree.ensures in
@@ -58,7 +58,7 @@ loop-symbol-preserved c =
 pub returns : goal.returns
 returns c =
     let d = c.args.draft.now in
-    let B = book-of (seen d) in
+    let B = book_of (seen d) in
     let s = c.loop-symbol.symbol in
     let n : c.symbol_count-symbol-end.result ≡ length (seen d).signature.symbols = c.symbol_count-symbol-end.ensures ∙ ap (λ (S : Signature). length S.symbols) c.signature-signature.ensures.value in
     let h = c.loop-symbol.invariant in
