@@ -21,7 +21,7 @@ use Rattle.drafts.specs.Stores.{seen}
 use Rattle.drafts.proofs.Sound.{sound_contents, counted_contents, book_rules}
 use Rattle.trees.specs.declared.node.Node.{Node}
 use Rattle.trees.specs.declared.node.Kind.{Kind}
-use Rattle.trees.specs.declared.node.Kind.TheVariants.{Rule as Rule-node, Branch}
+use Rattle.trees.specs.declared.node.Kind.TheVariants.{Rule as RuleNode, Branch}
 use Rattle.trees.specs.declared.trees.Trees.{Trees}
 use Rattle.trees.specs.Views.{steps_of}
 use Rattle.trees.specs.Nodes.{Before, first_child, Is, is_rule, is_branch, Linked, no_link, link}
@@ -102,8 +102,8 @@ module _ (rs : List Rule) (ns : List Node) where
   -- from the test to the tree
   mutual
     root_is : (k : Kind) (t : Tree) → is_root rs ns k t ≡ true → Is rs ns k t
-    root_is (Rule-node k) (at_rule r) e = let x = passed_there (same_rule r) (slice_get rs k) e in is_rule (x.1 ∙ ap Some (sym (same_rule_true r x.0 x.2)))
-    root_is (Rule-node k) (branch p ts) e = absurd (zero_one (cc))
+    root_is (RuleNode k) (at_rule r) e = let x = passed_there (same_rule r) (slice_get rs k) e in is_rule (x.1 ∙ ap Some (sym (same_rule_true r x.0 x.2)))
+    root_is (RuleNode k) (branch p ts) e = absurd (zero_one (cc))
     root_is (Branch q first) (at_rule r) e = absurd (zero_one (cc))
     root_is (Branch q first) (branch p ts) e =
         let a = and_parts (bytes_eq (steps_of q) p) (are_linked rs ns first ts) e in

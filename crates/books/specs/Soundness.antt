@@ -15,7 +15,7 @@ use Rattle.drafts.specs.Books.{book_of}
 use Rattle.trees.specs.declared.fault.CheckFault.{CheckFault}
 use Rattle.trees.specs.declared.node.Node.{Node}
 use Rattle.trees.specs.declared.node.Kind.{Kind}
-use Rattle.trees.specs.declared.node.Kind.TheVariants.{Rule as Rule-node, Branch}
+use Rattle.trees.specs.declared.node.Kind.TheVariants.{Rule as RuleNode, Branch}
 use Rattle.trees.specs.declared.trees.Trees.{Trees}
 use Rattle.trees.specs.Views.{steps_of}
 use Rattle.trees.specs.Checks.{check_fault}
@@ -54,8 +54,8 @@ goes_before i (Some j) = nat_lt j i
 -- whether a node is the root of a tree, and whether links lead to a tree's children
 abbrev mutual
   pub is_root : List Rule → List Node → Kind → Tree → Bool
-  is_root rs ns (Rule-node k) (at_rule r) = passes (same_rule r) (slice_get rs k)
-  is_root rs ns (Rule-node k) (branch p ts) = false
+  is_root rs ns (RuleNode k) (at_rule r) = passes (same_rule r) (slice_get rs k)
+  is_root rs ns (RuleNode k) (branch p ts) = false
   is_root rs ns (Branch q first) (at_rule r) = false
   is_root rs ns (Branch q first) (branch p ts) = bytes_eq (steps_of q) p && are_linked rs ns first ts
 

@@ -1,7 +1,7 @@
 -- Adding a rule: the refusals in their order, and what is added. Assumes nothing.
 use Rattle.std.specs.Prelude.{ℕ, ◌+◌, ◌^◌, Bool, true, false, cond, not, ◌&&◌, ◌||◌, List, [], ◌∷◌, ◌++◌, length, replicate, Some, None, Ok, Err, Option, Result, ◌==◌, nat_lt, slice_set}
 use Rattle.std.specs.List.{slice_get}
-use Rattle.terms.specs.declared.letter.Letter.{Letter as Any-letter}
+use Rattle.terms.specs.declared.letter.Letter.{Letter as AnyLetter}
 use Rattle.terms.specs.declared.letter.Letter.TheVariants.{Cell, Symbol, Variable}
 use Rattle.terms.specs.declared.signature.Role.{Role}
 use Rattle.terms.specs.declared.signature.Role.TheVariants.{Constructor, Function, Operation}
@@ -21,7 +21,7 @@ use Rattle.drafts.specs.Drafts.{Sides, Draft, awaited, letters_in, longest_side,
 use Rattle.drafts.specs.Contents.{Outcome, outcome, or_else}
 
 -- whether a letter is a number cell; a variable
-abbrev pub cell_letter : Option Any-letter → Bool
+abbrev pub cell_letter : Option AnyLetter → Bool
 cell_letter None = false
 cell_letter (Some (Cell n)) = true
 cell_letter (Some (Symbol s)) = false
@@ -30,7 +30,7 @@ cell_letter (Some (Variable v)) = false
 abbrev pub is_cell : ℕ → Bool
 is_cell x = cell_letter (letter_of x)
 
-abbrev pub variable_letter : Option Any-letter → Bool
+abbrev pub variable_letter : Option AnyLetter → Bool
 variable_letter None = false
 variable_letter (Some (Cell n)) = false
 variable_letter (Some (Symbol s)) = false
@@ -99,7 +99,7 @@ abbrev pub takes_sort : Signature → ℕ → ℕ → Bool
 takes_sort S x k = is_variable x || suits S closed x k
 
 -- the sorts of the variables with that of a variable's letter; at first none is known
-abbrev pub noted : Option Any-letter → ℕ → List (Option ℕ) → List (Option ℕ)
+abbrev pub noted : Option AnyLetter → ℕ → List (Option ℕ) → List (Option ℕ)
 noted None k vs = vs
 noted (Some (Cell n)) k vs = vs
 noted (Some (Symbol s)) k vs = vs

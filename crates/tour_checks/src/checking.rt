@@ -161,7 +161,7 @@ fn tell(rt: &HostRuntime, name: &str, draft: &Draft) -> io::Result<()> {
         Err(fault) => {
             let (number, function) = fault.numbered();
             print!(rt; "  {name}: refused {number}, names")?;
-            spell_symbol(rt, &draft.signature(), function, 0)?;
+            spell_symbol(rt, draft.signature(), function, 0)?;
             println!(rt)
         }
     }

@@ -17,7 +17,7 @@ use Rattle.drafts.specs.Drafts.{longest_side}
 use Rattle.trees.specs.declared.path.Path.{Path}
 use Rattle.trees.specs.declared.node.Node.{Node}
 use Rattle.trees.specs.declared.node.Kind.{Kind}
-use Rattle.trees.specs.declared.node.Kind.TheVariants.{Rule as Rule-node, Branch}
+use Rattle.trees.specs.declared.node.Kind.TheVariants.{Rule as RuleNode, Branch}
 use Rattle.trees.specs.declared.grown.Grown.{Grown}
 use Rattle.trees.specs.declared.store.Store.{Store}
 use Rattle.trees.specs.Views.{steps_of}

@@ -2,7 +2,7 @@
 use Rattle.std.proofs.Common.{◌≡◌, ℕ, zero, suc, ◌+◌, ◌<◌, ◌≤◌, Bool, ◌&&◌, ltb, List, [], ◌∷◌, map, length, get_or, take, drop, Some, None, Option, sym, refl, ap, ◌∙◌, subst, arith, Bor}
 use mathlib.Core.List.{Memᴰ}
 use Rattle.std.specs.List.{slice_get}
-use Rattle.std.specs.Option.{option_map as Read-of}
+use Rattle.std.specs.Option.{option_map as ReadOf}
 use Rattle.std.specs.Slice.{IsGetResult}
 use Rattle.std.proofs.lemmas.List.{length-map, at_drop_more, at_drop_all}
 use Rattle.std.proofs.lemmas.Bool.{lt-ltb, le-ltb}
@@ -222,11 +222,11 @@ draft_cells a (i ∷ p) r m n e = go (part_of r.left i p) refl e
     go (Some t) f g = not_cell t n (part_of_has Pattern Patterns under_constructor (λ k ts h. absurd h) (λ u ts h. h.0) (λ u ts h. h.1) r.left i p t ((book_rules a).patterns r m) f) g
 
 -- the letter that the code reads where the part at a position begins
-item_nth : (xs : List ℕ) (i : ℕ) (r : Option (Bor ℕ)) → IsGetResult xs i i r → Read-of (λ (x : Bor ℕ). x.now) r ≡ slice_get xs i
+item_nth : (xs : List ℕ) (i : ℕ) (r : Option (Bor ℕ)) → IsGetResult xs i i r → ReadOf (λ (x : Bor ℕ). x.now) r ≡ slice_get xs i
 item_nth xs i None h = sym (slice_get_past xs i h.3)
 item_nth xs i (Some x) h = sym (slice_get_read xs (length xs) i x.now refl h.3.0 h.1)
 
-pub letter_read : (S : Signature) (p p' w : List ℕ) (q : Part) (r : Option (Bor ℕ)) → p' ≡ p → Some q ≡ part_at S p' w → IsGetResult w q.start q.start r → Read-of (λ (x : Bor ℕ). x.now) r ≡ letter_in S p w
+pub letter_read : (S : Signature) (p p' w : List ℕ) (q : Part) (r : Option (Bor ℕ)) → p' ≡ p → Some q ≡ part_at S p' w → IsGetResult w q.start q.start r → ReadOf (λ (x : Bor ℕ). x.now) r ≡ letter_in S p w
 letter_read S p p' w q r s e h =
     item_nth w q.start r h
     ∙ ap (λ (o : Option Part). onward o (λ k. slice_get w k.start)) e

@@ -11,7 +11,7 @@ use Rattle.rewriting.specs.FixedTree.{same_head}
 use Rattle.rewriting.specs.Completeness.{is_among}
 use Rattle.trees.specs.declared.node.Node.{Node}
 use Rattle.trees.specs.declared.node.Kind.{Kind}
-use Rattle.trees.specs.declared.node.Kind.TheVariants.{Rule as Rule-node, Branch}
+use Rattle.trees.specs.declared.node.Kind.TheVariants.{Rule as RuleNode, Branch}
 use Rattle.trees.specs.Nodes.{Before, first_child, Is, is_rule, is_branch, Linked, no_link, link, child_for, seek, Leads, IsChild, FindsChild}
 use Rattle.trees.specs.Rows.{new_heads}
 use Rattle.trees.proofs.Scanned.{among_there, among_new}

@@ -17,7 +17,7 @@ use Rattle.drafts.specs.Drafts.{longest_side}
 use Rattle.trees.specs.declared.path.Path.{Path}
 use Rattle.trees.specs.declared.node.Node.{Node}
 use Rattle.trees.specs.declared.node.Kind.{Kind}
-use Rattle.trees.specs.declared.node.Kind.TheVariants.{Rule as Rule-node, Branch}
+use Rattle.trees.specs.declared.node.Kind.TheVariants.{Rule as RuleNode, Branch}
 use Rattle.trees.specs.declared.grown.Grown.{Grown}
 use Rattle.trees.specs.declared.store.Store.{Store}
 use Rattle.trees.specs.Views.{steps_of}
@@ -66,9 +66,9 @@ shared_short B short n ps rs stage p c e m =
 
 -- a rule node is the answer
 pub rule_grown : (S : Signature) (R : List Rule) (ns : List Node) (n : ℕ) (ps : List (List ℕ)) (rs : List Rule) (r : Rule) (k : ℕ) → 0 < n → sole_open ps rs ≡ Some r → slice_get R k ≡ Some r
-    → IsGrown S R ns (grow S n ps rs) (Some (record { kind = Rule-node k; complete = true }))
+    → IsGrown S R ns (grow S n ps rs) (Some (record { kind = RuleNode k; complete = true }))
 rule_grown S R ns n ps rs r k l e f =
-    let g : Grown = record { kind = Rule-node k; complete = true } in
+    let g : Grown = record { kind = RuleNode k; complete = true } in
     subst (λ (o : Option Tree). IsGrown S R ns o (Some g)) (sym (grows_rule S n ps rs r l e)) (g, refl, is_rule f, refl)
 
 -- there is no tree

@@ -9,7 +9,7 @@ use Rattle.rewriting.specs.Trees.{Node as Tree, at_rule, branch, Nodes as Childr
 use Rattle.trees.specs.declared.path.Path.{Path}
 use Rattle.trees.specs.declared.node.Node.{Node}
 use Rattle.trees.specs.declared.node.Kind.{Kind}
-use Rattle.trees.specs.declared.node.Kind.TheVariants.{Rule as Rule-node, Branch}
+use Rattle.trees.specs.declared.node.Kind.TheVariants.{Rule as RuleNode, Branch}
 use Rattle.trees.specs.Views.{steps_of}
 use Rattle.trees.specs.Rows.{is_met}
 
@@ -20,13 +20,13 @@ Before (Some j) i = j < i
 
 -- the link to the first child
 abbrev pub first_child : Kind → Option ℕ
-first_child (Rule-node k) = None
+first_child (RuleNode k) = None
 first_child (Branch p first) = first
 
 -- A node is a tree's root: a rule by its number, or a branch whose children are linked; each child is the node at its link, under its constructor. Links go to earlier places.
 mutual
   pub data Is (rs : List Rule) (ns : List Node) : Kind → Tree → Type 0 where
-    is_rule : {k : ℕ} {r : Rule} → slice_get rs k ≡ Some r → Is rs ns (Rule-node k) (at_rule r)
+    is_rule : {k : ℕ} {r : Rule} → slice_get rs k ≡ Some r → Is rs ns (RuleNode k) (at_rule r)
     is_branch : {p : Path} {first : Option ℕ} {ts : Children} → Linked rs ns first ts → Is rs ns (Branch p first) (branch (steps_of p) ts)
 
   pub data Linked (rs : List Rule) (ns : List Node) : Option ℕ → Children → Type 0 where

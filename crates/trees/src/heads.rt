@@ -1,16 +1,16 @@
 // The constructors that the rules which remain have at a position.
 ghost use Rattle.std.specs.Prelude.{◌≡◌, ◌<◌, length, take, if◌then◌else◌, Some, None, slice_index_or};
-ghost use Rattle.terms.specs.Terms.{symbol as of-symbol};
+ghost use Rattle.terms.specs.Terms.{symbol as of_symbol};
 ghost use Rattle.terms.specs.Roots.{head_args};
 ghost use Rattle.terms.specs.Sorting.{head_sort};
 ghost use Rattle.terms.specs.Views.{view};
 ghost use Rattle.rewriting.specs.FixedTree.{all_have, first_shared};
-ghost use Rattle.rewriting.specs.Completeness.{makes as makes-sort};
+ghost use Rattle.rewriting.specs.Completeness.{makes as makes_sort};
 ghost use Rattle.drafts.specs.Books.{book_of};
 ghost use Rattle.drafts.specs.Stores.{seen};
 ghost use Rattle.trees.specs.Views.{steps_of};
 ghost use Rattle.trees.specs.Opens.{open_of};
-ghost use Rattle.trees.specs.Rows.{chosen, heads_at, is_met as met-in, new_head as new_in, there};
+ghost use Rattle.trees.specs.Rows.{chosen, heads_at, is_met as met_in, new_head as new_in, there};
 ghost use Rattle.trees.specs.Sharing.{IsShared};
 
 use crate::masks::Mask;
@@ -60,7 +60,7 @@ pub(crate) fn first_shared(
 
 // Whether some place has a symbol.
 fn is_met(heads: &[Option<u8>], symbol: u8) -> bool
-    ensures { result ≡ met-in symbol heads.now }
+    ensures { result ≡ met_in symbol heads.now }
 {
     for head in heads {
         if *head == Some(symbol) {
@@ -85,7 +85,7 @@ pub(crate) fn new_head(heads: &Heads, at: usize) -> Option<u8>
 
 // The number of a constructor's arguments.
 pub(crate) fn arity_of(signature: &Signature, symbol: u8) -> usize
-    ensures { result ≡ length (head_args (view signature.now) (of-symbol symbol)) }
+    ensures { result ≡ length (head_args (view signature.now) (of_symbol symbol)) }
 {
     signature
         .arity(Letter::Symbol(symbol).number())
@@ -94,14 +94,14 @@ pub(crate) fn arity_of(signature: &Signature, symbol: u8) -> usize
 
 // A constructor's sort.
 pub(crate) fn sort_of(signature: &Signature, symbol: u8) -> u8
-    ensures { result ≡ head_sort (view signature.now) (of-symbol symbol) }
+    ensures { result ≡ head_sort (view signature.now) (of_symbol symbol) }
 {
     signature.sort(Letter::Symbol(symbol).number()).unwrap_or(0)
 }
 
 // Whether the constructor of some place is of a sort.
 pub(crate) fn makes(signature: &Signature, heads: &Heads, sort: u8) -> bool
-    ensures { result ≡ makes-sort (view signature.now) sort (there heads.now) }
+    ensures { result ≡ makes_sort (view signature.now) sort (there heads.now) }
 {
     for head in heads {
         if let Some(symbol) = *head {

@@ -1,6 +1,6 @@
 -- The definitions on a small signature: the sort level with zero, up and meet.
 use Rattle.std.proofs.Common.{◌≡◌, ℕ, ◌+◌, ◌-◌, ◌^◌, Bool, true, false, leb, List, [], ◌∷◌, Some, None, Ok, Err, codes, Option, Result, refl}
-use Rattle.terms.specs.declared.letter.Letter.{Letter as Any-letter}
+use Rattle.terms.specs.declared.letter.Letter.{Letter as AnyLetter}
 use Rattle.terms.specs.declared.letter.Letter.TheVariants.{Symbol, Variable}
 use Rattle.terms.specs.declared.signature.Role.TheVariants.{Constructor, Function}
 use Rattle.words.specs.declared.part.Part.{Part}
@@ -50,13 +50,13 @@ fault = lawful_fault levels (λ n. leb n 999999) 4
 last_symbol : letter_of (2 ^ 32 + 95) ≡ Some (Symbol 95)
 last_symbol = refl
 
-past_symbols : ◌≡◌ {A = Option Any-letter} (letter_of (2 ^ 32 + 96)) None
+past_symbols : ◌≡◌ {A = Option AnyLetter} (letter_of (2 ^ 32 + 96)) None
 past_symbols = refl
 
 last_variable : letter_of (2 ^ 33 + 7) ≡ Some (Variable 7)
 last_variable = refl
 
-past_variables : ◌≡◌ {A = Option Any-letter} (letter_of (2 ^ 33 + 8)) None
+past_variables : ◌≡◌ {A = Option AnyLetter} (letter_of (2 ^ 33 + 8)) None
 past_variables = refl
 
 no_name : name_of (codes "9to5") ≡ None

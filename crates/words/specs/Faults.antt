@@ -1,7 +1,7 @@
 -- The faults of a word that is to be a term. Assumes nothing.
 use Rattle.std.specs.Prelude.{ℕ, ◌+◌, Bool, true, false, cond, ◌||◌, List, [], ◌∷◌, ◌++◌, length, Some, None, Ok, Err, Option, Result, ◌==◌, nat_eq, nat_lt}
-use Rattle.terms.specs.declared.letter.Letter.TheVariants.{Symbol, Variable, Cell as Cell-letter}
-use Rattle.terms.specs.declared.letter.Letter.{Letter as Any-letter}
+use Rattle.terms.specs.declared.letter.Letter.TheVariants.{Symbol, Variable, Cell as CellLetter}
+use Rattle.terms.specs.declared.letter.Letter.{Letter as AnyLetter}
 use Rattle.words.specs.declared.fault.WordFault.{WordFault}
 use Rattle.words.specs.declared.fault.WordFault.TheVariants.{Length, Letter, Whole, Sort, Cell}
 use Rattle.terms.specs.Options.{passes, more}
@@ -93,9 +93,9 @@ wrong_argument S [] = None
 wrong_argument S (x ∷ w) = more (wrong_place (walk S closed (due_after (args_of S x) []) w))
 
 -- a cell is lawful; other letters are not asked
-abbrev pub lawful_letter : (ℕ → Bool) → Option Any-letter → Bool
+abbrev pub lawful_letter : (ℕ → Bool) → Option AnyLetter → Bool
 lawful_letter lawful None = true
-lawful_letter lawful (Some (Cell-letter n)) = lawful n
+lawful_letter lawful (Some (CellLetter n)) = lawful n
 lawful_letter lawful (Some (Symbol s)) = true
 lawful_letter lawful (Some (Variable v)) = true
 

@@ -1,7 +1,7 @@
 // Checking drafts.
 ghost use Rattle.std.specs.Prelude.{◌≡◌};
 ghost use Rattle.terms.specs.Views.{view};
-ghost use Rattle.drafts.specs.Drafts.{empty as empty-draft};
+ghost use Rattle.drafts.specs.Drafts.{empty as empty_draft};
 ghost use Rattle.drafts.specs.Stores.{seen};
 ghost use Rattle.trees.specs.Standing.{refusal};
 ghost use Rattle.books.specs.Holding.{held, trees_of, Checks};
@@ -17,7 +17,7 @@ use trees::trees::Trees;
 impl Book {
     // The empty book: what is built in.
     pub fn empty() -> Book
-        ensures { held result ≡ empty-draft }
+        ensures { held result ≡ empty_draft }
     {
         Book {
             rules: RuleSet {

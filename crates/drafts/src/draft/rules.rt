@@ -2,7 +2,7 @@
 ghost use Rattle.std.specs.Prelude.{◌≡◌, length};
 ghost use Rattle.std.specs.List.{slice_get};
 ghost use Rattle.terms.specs.Options.{mapped};
-ghost use Rattle.drafts.specs.Drafts.{sides, awaited as the-awaited};
+ghost use Rattle.drafts.specs.Drafts.{sides, awaited as the_awaited};
 ghost use Rattle.drafts.specs.Rules.{rule_refusal, add_rule};
 ghost use Rattle.drafts.specs.Stores.{seen, Does, verdict};
 
@@ -14,7 +14,7 @@ use crate::span::Span;
 impl Draft {
     // The function whose rule comes next.
     pub fn awaited(&self) -> Option<u8>
-        ensures { result ≡ the-awaited (seen self.now) }
+        ensures { result ≡ the_awaited (seen self.now) }
     {
         let count = self.signature.symbol_count();
         let mut before = self.rule_count;

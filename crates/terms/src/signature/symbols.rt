@@ -2,8 +2,8 @@
 ghost use Rattle.std.specs.Prelude.{◌≡◌, [], length};
 ghost use Rattle.std.specs.List.{slice_get};
 ghost use Rattle.terms.specs.Options.{mapped};
-ghost use Rattle.terms.specs.Signatures.{sort_named as the-sort, symbol_named as the-symbol};
-ghost use Rattle.terms.specs.Roots.{role_of, args_of, arity as arity-of};
+ghost use Rattle.terms.specs.Signatures.{sort_named as the_sort, symbol_named as the_symbol};
+ghost use Rattle.terms.specs.Roots.{role_of, args_of, arity as arity_of};
 ghost use Rattle.terms.specs.Sorting.{closed, sort_of};
 ghost use Rattle.terms.specs.Views.{bytes_of, declaration, view, given};
 
@@ -55,7 +55,7 @@ impl Signature {
 
     // The sort that has this name.
     pub fn sort_named(&self, bytes: &[u8]) -> Option<u8>
-        ensures { result ≡ the-sort (view self.now) bytes.now }
+        ensures { result ≡ the_sort (view self.now) bytes.now }
     {
         for i in 0..self.sort_count {
             if self.sorts[i].is(bytes) {
@@ -67,7 +67,7 @@ impl Signature {
 
     // The symbol that has this name.
     pub fn symbol_named(&self, bytes: &[u8]) -> Option<u8>
-        ensures { result ≡ the-symbol (view self.now) bytes.now }
+        ensures { result ≡ the_symbol (view self.now) bytes.now }
     {
         for i in 0..self.symbol_count {
             if self.symbols[i].name.is(bytes) {
@@ -99,7 +99,7 @@ impl Signature {
 
     // How many arguments a letter takes.
     pub fn arity(&self, letter: u64) -> Option<usize>
-        ensures { result ≡ arity-of (view self.now) letter }
+        ensures { result ≡ arity_of (view self.now) letter }
     {
         Some(self.arguments(letter)?.len())
     }

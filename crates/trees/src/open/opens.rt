@@ -1,6 +1,6 @@
 // Opening positions.
 ghost use Rattle.std.specs.Prelude.{◌≡◌, ◌+◌, ◌<◌, ◌≤◌, [], ◌∷◌, ◌++◌, length, slice_index_or};
-ghost use Rattle.rewriting.specs.Growing.{below, opened as the-opened};
+ghost use Rattle.rewriting.specs.Growing.{below, opened as the_opened};
 ghost use Rattle.trees.specs.Views.{steps_of};
 ghost use Rattle.trees.specs.Opens.{open_of};
 
@@ -51,8 +51,8 @@ impl Open {
     pub(crate) fn opened(&self, path: &Path, arity: usize) -> Open
         requires few { arity ≤ 4 }
         requires short { length (steps_of path.now) < 64 }
-        requires room { length (the-opened (open_of self.now) (steps_of path.now) arity) ≤ 64 }
-        ensures { open_of result ≡ the-opened (open_of self.now) (steps_of path.now) arity }
+        requires room { length (the_opened (open_of self.now) (steps_of path.now) arity) ≤ 64 }
+        ensures { open_of result ≡ the_opened (open_of self.now) (steps_of path.now) arity }
     {
         let mut open = Open::none();
         for i in 0..self.count {

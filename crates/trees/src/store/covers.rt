@@ -3,7 +3,7 @@ ghost use Rattle.std.specs.Prelude.{◌≡◌, ◌<◌};
 ghost use Rattle.std.specs.List.{slice_get};
 ghost use Rattle.terms.specs.Options.{passes};
 ghost use Rattle.terms.specs.Views.{view};
-ghost use Rattle.rewriting.specs.Completeness.{is_met as meets, covers as all-covered};
+ghost use Rattle.rewriting.specs.Completeness.{is_met as meets, covers as all_covered};
 ghost use Rattle.trees.specs.Rows.{there};
 ghost use Rattle.trees.specs.Nodes.{Leads};
 ghost use Rattle.trees.specs.Growth.{nodes_of};
@@ -42,7 +42,7 @@ impl Store {
         children: Option<usize>,
     ) -> bool
         requires { Leads (nodes_of self.now) children heads.now }
-        ensures { result ≡ all-covered (view signature.now) (there heads.now) }
+        ensures { result ≡ all_covered (view signature.now) (there heads.now) }
     {
         for symbol in 0..signature.symbol_count() {
             if !self.is_covered(signature, heads, children, symbol as u8) {

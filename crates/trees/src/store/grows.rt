@@ -1,7 +1,7 @@
 // Growing trees.
 ghost use Rattle.std.specs.Prelude.{◌≡◌, ◌+◌, ◌<◌, ◌≤◌, [], ◌∷◌, ◌++◌, length};
 ghost use Rattle.terms.specs.Views.{view};
-ghost use Rattle.rewriting.specs.Growing.{grow as the-grown};
+ghost use Rattle.rewriting.specs.Growing.{grow as the_grown};
 ghost use Rattle.drafts.specs.Books.{book_of};
 ghost use Rattle.drafts.specs.Stores.{seen};
 ghost use Rattle.trees.specs.Opens.{open_of};
@@ -60,7 +60,7 @@ impl Store {
         requires stage { AtStage (book_of (seen draft.now)) fuel (open_of positions.now) (chosen remain.now (book_of (seen draft.now)).rules) }
         requires room { self.old.count + cost fuel (chosen remain.now (book_of (seen draft.now)).rules) ≤ 1024 }
         ensures added { Added self.old self.new (cost fuel (chosen remain.now (book_of (seen draft.now)).rules)) }
-        ensures grown { IsGrown (seen draft.now).signature (book_of (seen draft.now)).rules (nodes_of self.new) (the-grown (seen draft.now).signature fuel (open_of positions.now) (chosen remain.now (book_of (seen draft.now)).rules)) result }
+        ensures grown { IsGrown (seen draft.now).signature (book_of (seen draft.now)).rules (nodes_of self.new) (the_grown (seen draft.now).signature fuel (open_of positions.now) (chosen remain.now (book_of (seen draft.now)).rules)) result }
     {
         if let Some(rule) = sole_open(signature, draft, positions, remain) {
             return Some(Grown {

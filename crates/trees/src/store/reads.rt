@@ -1,7 +1,7 @@
 // Reading nodes.
 ghost use Rattle.std.specs.Prelude.{◌≡◌, length};
 ghost use Rattle.std.specs.List.{slice_get};
-ghost use Rattle.trees.specs.Nodes.{seek as the-sought};
+ghost use Rattle.trees.specs.Nodes.{seek as the_sought};
 ghost use Rattle.trees.specs.Growth.{nodes_of};
 
 use super::Store;
@@ -21,7 +21,7 @@ impl Store {
 
     // The place of the node for a symbol, along links from a node on.
     pub(crate) fn seek(&self, first: Option<usize>, symbol: u8) -> Option<usize>
-        ensures { result ≡ the-sought (length (nodes_of self.now)) (nodes_of self.now) first symbol }
+        ensures { result ≡ the_sought (length (nodes_of self.now)) (nodes_of self.now) first symbol }
     {
         let mut link = first;
         for _ in 0..self.count {

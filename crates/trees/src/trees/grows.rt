@@ -43,7 +43,7 @@ impl Trees {
         let signature = draft.signature();
         let mut trees = Trees::none();
         for symbol in 0..signature.symbol_count() {
-            trees.add_tree(&signature, draft, symbol as u8)?;
+            trees.add_tree(signature, draft, symbol as u8)?;
         }
         Ok(trees)
     }
