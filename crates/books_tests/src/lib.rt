@@ -191,7 +191,7 @@ mod tests {
         let Kind::Rule(rule) = leaf.kind else {
             return false;
         };
-        path.steps() == [1] && rule == 0 && book.rules.child(root, 3).is_none()
+        path.steps() == [1].as_slice() && rule == 0 && book.rules.child(root, 3).is_none()
     }
 
     #[test]
