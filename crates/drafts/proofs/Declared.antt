@@ -1,5 +1,5 @@
 -- What a declaration leaves.
-use Rattle.std.proofs.Common.{◌≡◌, ℕ, ◌+◌, ◌-◌, ◌<◌, ◌≤◌, Bool, true, false, cond, ltb, leb, List, [], ◌∷◌, ◌++◌, map, length, take, set, Some, None, Ok, Err, Option, sym, refl, ap, ◌∙◌, subst, ap₂, arith}
+use Rattle.std.proofs.Common.{◌≡◌, ℕ, ◌-◌, ◌<◌, ◌≤◌, true, ltb, leb, List, [], ◌∷◌, ◌++◌, length, take, set, Some, None, Ok, Option, refl, ap, ◌∙◌, ap₂, arith}
 use Rattle.std.proofs.lemmas.List.{take_more_set, length_push}
 use Rattle.std.proofs.lemmas.Bool.{leb-false, and_parts, ltb-true}
 use Rattle.terms.specs.declared.signature.Role.{Role}
@@ -10,10 +10,9 @@ use Rattle.terms.specs.Views.{view, Changed}
 use Rattle.terms.proofs.Tables.{sort_added, symbol_added, length_sorts}
 use Rattle.terms.proofs.Letters.{zero_one}
 use Rattle.drafts.specs.declared.draft.Draft.{Draft as Store}
-use Rattle.drafts.specs.declared.span.Span.{Span}
 use Rattle.drafts.specs.Drafts.{Sides, Draft}
 use Rattle.drafts.specs.Contents.{name_fault, sorts_full, sort_fault, constructor_fault, function_fault, all_below, with_sort, with_symbol}
-use Rattle.drafts.specs.Views.{sides_of, drafted}
+use Rattle.drafts.specs.Views.{drafted}
 use Rattle.drafts.specs.Soundness.{is_sound, three_operations}
 use Rattle.drafts.specs.Stores.{seen, verdict}
 use Rattle.drafts.proofs.Verdicts.{passed}

@@ -1,9 +1,7 @@
 -- The definitions on small drafts.
-use Rattle.std.proofs.Common.{◌≡◌, ℕ, ◌+◌, ◌^◌, List, [], ◌∷◌, Some, None, Ok, Err, codes, Option, Result, refl}
-use Rattle.drafts.specs.declared.fault.ContentFault.{ContentFault}
+use Rattle.std.proofs.Common.{◌≡◌, ℕ, ◌+◌, ◌^◌, [], ◌∷◌, Some, Ok, Err, codes, refl}
 use Rattle.drafts.specs.declared.fault.ContentFault.TheVariants.{RuleStands, NameTaken, UndeclaredSort, WrongPromise}
-use Rattle.drafts.specs.declared.fault.Side.TheVariants.{Left, Right}
-use Rattle.drafts.specs.declared.fault.RuleFault.{RuleFault}
+use Rattle.drafts.specs.declared.fault.Side.TheVariants.{Right}
 use Rattle.drafts.specs.declared.fault.RuleFault.TheVariants.{Letter, TwiceOnLeft, Sort}
 use Rattle.drafts.specs.Drafts.{Draft, empty, sides, awaited}
 use Rattle.drafts.specs.Contents.{declare_sort, declare_constructor, declare_function}

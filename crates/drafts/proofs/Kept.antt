@@ -1,16 +1,15 @@
 -- What is declared without fault leaves a draft sound.
-use Rattle.std.proofs.Common.{◌≡◌, ℕ, zero, suc, ◌+◌, ◌<◌, ◌≤◌, Bool, true, false, cond, not, ◌&&◌, ◌||◌, eqb, ltb, leb, ◌⊎◌, List, [], ◌∷◌, ◌++◌, map, length, drop, Some, None, Option, sym, refl, ap, ◌∙◌, subst, inl, inr, append_assoc, append-nil, add-zero, arith}
+use Rattle.std.proofs.Common.{◌≡◌, ℕ, zero, suc, ◌+◌, ◌<◌, ◌≤◌, Bool, true, false, cond, not, ◌&&◌, ◌||◌, eqb, ltb, leb, List, [], ◌∷◌, ◌++◌, map, length, drop, Some, None, Option, sym, refl, ap, ◌∙◌, subst, inl, inr, append_assoc, append-nil, arith}
 use Rattle.std.specs.Str.{bytes_eq}
-use Rattle.std.proofs.lemmas.List.{length-append, length_push, map-append}
-use Rattle.std.proofs.lemmas.Bool.{and_parts, and_from, or_parts, or_from, not-true, not-false, both_ways, cases_Bool, eqb-true, eqb-false, eq-eqb, ne_eqb, ltb-true, lt-ltb, leb-true, leb-false, le-leb, ltb-false}
+use Rattle.std.proofs.lemmas.List.{length-append, map-append}
+use Rattle.std.proofs.lemmas.Bool.{and_parts, and_from, or_parts, or_from, not-true, not-false, both_ways, cases_Bool, eqb-true, eqb-false, eq-eqb, ne_eqb, lt-ltb, leb-true, leb-false, le-leb, ltb-false}
 use Rattle.terms.specs.declared.signature.Role.TheVariants.{Constructor, Function, Operation}
 use Rattle.terms.specs.Names.{well_formed, find_name}
 use Rattle.terms.specs.Roots.{is_constructor}
 use Rattle.terms.specs.Signatures.{Declaration, Signature, built_in}
 use Rattle.terms.proofs.Letters.{zero_one}
-use Rattle.drafts.specs.declared.fault.ContentFault.{ContentFault}
 use Rattle.drafts.specs.Drafts.{Sides, Draft, in_turn, total, most_rules}
-use Rattle.drafts.specs.Contents.{or_else, names, is_found, is_taken, is_keyword, some_rule, all_below, name_fault, sorts_fault, sorts_full, symbols_full, sort_fault, symbol_fault, constructor_fault, function_fault, with_sort, with_symbol}
+use Rattle.drafts.specs.Contents.{or_else, names, is_found, is_taken, is_keyword, some_rule, all_below, name_fault, sorts_fault, sorts_full, sort_fault, symbol_fault, constructor_fault, function_fault, with_sort, with_symbol}
 use Rattle.drafts.specs.Soundness.{distinct, sorts_below, no_number_made, begins_with, same_role, same_declaration, no_operation, promise_fits, promises_fit, stand_in_turn, contents_sound, is_sound}
 use Rattle.drafts.proofs.Lists.{found_append, below_wider, total_push}
 

@@ -1,28 +1,28 @@
 -- The two words of a rule without fault, as terms.
-use Rattle.std.proofs.Common.{◌≡◌, ℕ, zero, suc, ◌+◌, ◌^◌, ◌<◌, ◌≤◌, Bool, true, false, cond, not, ◌&&◌, ◌||◌, eqb, ◌⊎◌, List, [], ◌∷◌, ◌++◌, map, length, set, Some, None, Ok, Err, Option, Result, sym, refl, ap, ◌∙◌, subst, ap₂, inl, inr, append_assoc, append-nil, arith}
+use Rattle.std.proofs.Common.{◌≡◌, ℕ, zero, suc, ◌+◌, ◌^◌, ◌<◌, Bool, true, false, cond, not, ◌&&◌, ◌||◌, eqb, ◌⊎◌, List, [], ◌∷◌, ◌++◌, map, length, set, Some, None, Ok, Err, Option, Result, sym, refl, ap, ◌∙◌, subst, ap₂, inl, inr, append_assoc, append-nil, arith}
 use mathlib.Core.List.{Memᴰ}
 use Rattle.std.specs.List.{slice_get}
 use Rattle.std.proofs.lemmas.List.{length-set, map-append}
-use Rattle.std.proofs.lemmas.Bool.{and_parts, and_from, or_parts, or_from, eqb-true, eqb-false, eq-eqb, ne_eqb, cases_Bool, both_ways, not-true, not-false, cond-true, cond-false}
+use Rattle.std.proofs.lemmas.Bool.{and_from, or_parts, or_from, eqb-true, eqb-false, eq-eqb, ne_eqb, both_ways, cond-true}
 use Rattle.terms.specs.declared.letter.Letter.{Letter}
 use Rattle.terms.specs.declared.letter.Letter.TheVariants.{Cell, Symbol, Variable}
 use Rattle.terms.specs.declared.signature.Role.{Role}
 use Rattle.terms.specs.declared.signature.Role.TheVariants.{Constructor, Function, Operation}
-use Rattle.terms.specs.Terms.{Head, cell, symbol, Fn, plus, minus, atmost, own, Term, var, con, fun, Terms, nil, ◌▸◌, count}
+use Rattle.terms.specs.Terms.{Head, cell, symbol, Fn, Term, var, con, fun, Terms, nil, ◌▸◌, count}
 use Rattle.terms.specs.Options.{onward, mapped, passes, more}
-use Rattle.terms.specs.Letters.{letter_of, number_of}
+use Rattle.terms.specs.Letters.{letter_of}
 use Rattle.terms.specs.Signatures.{Declaration, Signature}
-use Rattle.terms.specs.Roots.{Root, variable, head, call, fn_number, fn_of, letter, number, is_constructor, Declared, Stands, letter_role, role_of, root_args, root_of, args_of}
-use Rattle.terms.specs.Sorting.{Environment, Sorted, AllSorted, closed, head_sort, fn_sort, root_sort, sort_of}
+use Rattle.terms.specs.Roots.{Root, variable, head, call, letter, number, is_constructor, Stands, letter_role, root_args, args_of}
+use Rattle.terms.specs.Sorting.{Sorted, AllSorted, closed, head_sort, fn_sort, root_sort}
 use Rattle.terms.specs.Views.{given}
 use Rattle.terms.proofs.Letters.{zero_one, letter_back, is_letter}
 use Rattle.terms.proofs.Options.{more_none}
 use Rattle.terms.proofs.Roots.{in_range, root_back, args_back}
 use Rattle.words.specs.Words.{word, words, Fits, AllFit}
-use Rattle.words.specs.Faults.{first_not, suits, due_after}
+use Rattle.words.specs.Faults.{suits, due_after}
 use Rattle.rewriting.specs.Substitutions.{Occurrence, moved, in_first, in_later, occurrences, all_occurrences, variables}
 use Rattle.rewriting.specs.Rules.{Different}
-use Rattle.drafts.specs.Rules.{is_cell, cell_letter, is_variable, variable_letter, calls, is_function, stands_in, first_that, is_again, first_again, is_new, takes_sort, noted, none_known, one_on, left_sorts}
+use Rattle.drafts.specs.Rules.{is_cell, cell_letter, is_variable, variable_letter, calls, is_function, stands_in, first_that, is_again, first_again, takes_sort, noted, none_known, one_on, left_sorts}
 use Rattle.drafts.proofs.LeftSorts.{no_letter}
 use Rattle.drafts.specs.Statements.{Pattern, Patterns}
 

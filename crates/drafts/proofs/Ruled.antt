@@ -1,5 +1,5 @@
 -- What adding a rule leaves.
-use Rattle.std.proofs.Common.{◌≡◌, ℕ, ◌+◌, ◌-◌, ◌<◌, ◌≤◌, Bool, true, false, cond, ◌||◌, eqb, ltb, List, [], ◌∷◌, ◌++◌, map, length, take, drop, set, Some, None, Ok, Err, Option, sym, refl, ap, ◌∙◌, subst, ap₂, add_assoc, arith}
+use Rattle.std.proofs.Common.{◌≡◌, ℕ, ◌+◌, ◌-◌, ◌<◌, ◌≤◌, true, false, eqb, ltb, List, [], ◌∷◌, ◌++◌, map, length, take, set, Some, None, Ok, Option, sym, refl, ap, ◌∙◌, ap₂, add_assoc, arith}
 use borrow.Rule.Slice.PartMut.{put_mid}
 use Rattle.std.proofs.lemmas.List.{take_more_set, map_push, length-take}
 use Rattle.std.proofs.lemmas.Bool.{and_parts, ltb-false, eqb-false, or_parts}
@@ -8,8 +8,7 @@ use Rattle.terms.proofs.Letters.{zero_one}
 use Rattle.terms.proofs.Tables.{length_symbols}
 use Rattle.drafts.specs.declared.draft.Draft.{Draft as Store}
 use Rattle.drafts.specs.declared.span.Span.{Span}
-use Rattle.drafts.specs.declared.fault.RuleFault.{RuleFault}
-use Rattle.drafts.specs.Drafts.{Sides, sides, Draft, in_turn, awaited, total, letters_in, longest_side, most_rules, most_letters}
+use Rattle.drafts.specs.Drafts.{Sides, sides, Draft, awaited, letters_in, longest_side, most_letters}
 use Rattle.drafts.specs.Rules.{bad_length, word_faults, rule_fault, no_room, fault_under, rule_refusal, with_rule}
 use Rattle.drafts.specs.Views.{sides_of, drafted, in_a_row}
 use Rattle.drafts.specs.Soundness.{contents_sound, is_sound}

@@ -1,5 +1,5 @@
 -- Every draft is sound.
-use Rattle.std.proofs.Common.{◌≡◌, ℕ, zero, suc, ◌<◌, ◌≤◌, Bool, true, false, not, ◌&&◌, ◌||◌, eqb, ltb, ◌⊎◌, List, [], ◌∷◌, ◌++◌, map, length, take, drop, Some, None, Option, sym, refl, ap, ◌∙◌, subst, ap₂, inl, inr, arith}
+use Rattle.std.proofs.Common.{◌≡◌, ℕ, zero, suc, ◌<◌, ◌≤◌, Bool, true, false, not, ◌||◌, eqb, ltb, List, [], ◌∷◌, ◌++◌, map, length, take, drop, Some, sym, refl, ap, ◌∙◌, subst, ap₂, arith}
 use mathlib.Core.List.{Memᴰ}
 use Rattle.std.specs.List.{slice_get}
 use Rattle.std.specs.Str.{bytes_eq}
@@ -9,23 +9,21 @@ use Rattle.terms.specs.declared.signature.Entry.{Entry}
 use Rattle.terms.specs.declared.signature.Signature.{Signature as Table}
 use Rattle.terms.specs.declared.signature.Role.{Role}
 use Rattle.terms.specs.declared.signature.Role.TheVariants.{Operation}
-use Rattle.terms.specs.Terms.{symbol}
 use Rattle.terms.specs.Names.{well_formed, find_name}
-use Rattle.terms.specs.Signatures.{Declaration, Signature, built_in}
-use Rattle.terms.specs.Roots.{head, is_constructor, Stands}
-use Rattle.terms.specs.Sorting.{sort_in, head_sort}
+use Rattle.terms.specs.Signatures.{Declaration, built_in}
+use Rattle.terms.specs.Roots.{is_constructor}
+use Rattle.terms.specs.Sorting.{sort_in}
 use Rattle.terms.specs.Views.{bytes_of, declaration, view}
 use Rattle.terms.proofs.Letters.{zero_one}
 use Rattle.terms.proofs.Tables.{length_symbols}
-use Rattle.rewriting.specs.Rules.{Different, Proper}
+use Rattle.rewriting.specs.Rules.{Different}
 use Rattle.drafts.specs.declared.draft.Draft.{Draft as Store}
-use Rattle.drafts.specs.Drafts.{Draft, in_turn}
+use Rattle.drafts.specs.Drafts.{in_turn}
 use Rattle.drafts.specs.Contents.{names, is_found, all_below}
 use Rattle.drafts.specs.Soundness.{distinct, sorts_below, no_number_made, same_role, no_operation, promise_fits, promises_fit, contents_sound, stand_in_turn}
 use Rattle.drafts.specs.Stores.{seen}
 use Rattle.drafts.specs.Statements.{SoundContents, SoundRules}
 use Rattle.drafts.specs.Books.{book_of, CountedContents, BookRules}
-use Rattle.drafts.proofs.Lists.{found_append}
 use Rattle.drafts.proofs.Kept.{found_cons, SoundParts, parts_of}
 use Rattle.drafts.proofs.RuleTerms.{or_left, or_right}
 use Rattle.drafts.proofs.Stores.{length_rules}

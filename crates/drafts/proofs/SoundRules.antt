@@ -1,29 +1,28 @@
 -- The rules of a sound draft are rules of a book.
-use Rattle.std.proofs.Common.{◌≡◌, ℕ, zero, suc, ◌+◌, ◌^◌, ◌<◌, ◌≤◌, Bool, true, false, cond, not, ◌&&◌, ◌||◌, eqb, ltb, ◌↔◌, List, [], ◌∷◌, ◌++◌, map, length, take, replicate, Some, None, Ok, Err, Option, Result, sym, refl, ap, ◌∙◌, subst, ap₂, append-nil, arith}
+use Rattle.std.proofs.Common.{◌≡◌, ℕ, zero, suc, ◌+◌, ◌^◌, ◌<◌, ◌≤◌, Bool, true, false, not, ◌&&◌, eqb, ◌↔◌, List, [], ◌∷◌, ◌++◌, map, length, take, replicate, Some, None, Ok, Err, Option, Result, sym, refl, ap, ◌∙◌, subst, ap₂, append-nil, arith}
 use mathlib.Core.List.{Memᴰ}
 use Rattle.std.specs.List.{slice_get}
-use Rattle.std.proofs.lemmas.Bool.{and_parts, eqb-true, ltb-true, both_ways, not-true, not-false}
+use Rattle.std.proofs.lemmas.Bool.{and_parts, eqb-true, ltb-true, both_ways, not-false}
 use Rattle.std.specs.Str.{bytes_eq}
 use Rattle.terms.specs.declared.signature.Role.{Role}
 use Rattle.terms.specs.declared.signature.Role.TheVariants.{Constructor, Function, Operation}
-use Rattle.terms.specs.Terms.{Head, cell, symbol, Fn, own, Term, var, con, fun, Terms, nil, ◌▸◌}
-use Rattle.terms.specs.Options.{onward, more}
+use Rattle.terms.specs.Terms.{cell, symbol, Fn, own, Term, var, con, fun, Terms, nil, ◌▸◌}
+use Rattle.terms.specs.Options.{onward}
 use Rattle.terms.specs.Signatures.{Declaration, Signature, built_in}
-use Rattle.terms.specs.Roots.{variable, head, call, number, fn_number, fn_of, is_constructor, Stands}
+use Rattle.terms.specs.Roots.{variable, head, call, number, fn_number, fn_of, is_constructor}
 use Rattle.terms.specs.Sorting.{fn_sort}
 use Rattle.terms.specs.Views.{given}
 use Rattle.terms.proofs.Letters.{zero_one}
 use Rattle.terms.proofs.Options.{more_none}
-use Rattle.words.specs.Words.{word, words, read, Fits, AllFit}
+use Rattle.words.specs.Words.{word, words, read, Fits}
 use Rattle.words.specs.Faults.{first_not, is_declared, not_whole, walk, wrong_place}
 use Rattle.words.proofs.Rows.{reads_back}
 use Rattle.words.proofs.Faultless.{tells_whole}
 use Rattle.words.proofs.Sorts.{sorted_words}
-use Rattle.rewriting.specs.Substitutions.{variables}
 use Rattle.rewriting.proofs.Occurrences.{different_linear}
 use Rattle.rewriting.specs.Rules.{Rule, left_side, Linear, SortCorrect}
 use Rattle.drafts.specs.declared.fault.RuleFault.{RuleFault}
-use Rattle.drafts.specs.Drafts.{Sides, sides, Draft, in_turn, longest_side}
+use Rattle.drafts.specs.Drafts.{Sides, sides, in_turn, longest_side}
 use Rattle.drafts.specs.Rules.{is_cell, is_variable, is_function, stands_in, first_that, bad_length, first_cell, starts_with, inner_function, first_twice, is_new, first_new, left_sorts, none_known, right_wrong, at_place, sort_wrong, word_faults, shape_faults, rule_fault}
 use Rattle.drafts.specs.Soundness.{same_declaration, same_role, begins_with, promise_fits, promises_fit, faultless, stand_in_turn}
 use Rattle.drafts.specs.Statements.{Patterns, written}

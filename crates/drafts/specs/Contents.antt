@@ -1,7 +1,6 @@
 -- Declaring sorts, constructors and functions: the refusals in their order, and what is added. Assumes nothing.
 use Rattle.std.specs.Prelude.{ℕ, ◌+◌, Bool, true, false, cond, not, ◌&&◌, ◌||◌, List, [], ◌∷◌, ◌++◌, map, length, Some, None, Ok, Err, codes, Option, Result, ◌==◌, nat_le, nat_lt}
 use Rattle.std.specs.Str.{bytes_eq}
-use Rattle.terms.specs.declared.signature.Role.{Role}
 use Rattle.terms.specs.declared.signature.Role.TheVariants.{Constructor, Function}
 use Rattle.terms.specs.Names.{well_formed, find_name}
 use Rattle.terms.specs.Signatures.{Declaration, Signature}

@@ -1,6 +1,5 @@
 -- Adding a rule: the refusals in their order, and what is added. Assumes nothing.
 use Rattle.std.specs.Prelude.{ℕ, ◌+◌, ◌^◌, Bool, true, false, cond, not, ◌&&◌, ◌||◌, List, [], ◌∷◌, ◌++◌, length, replicate, Some, None, Ok, Err, Option, Result, ◌==◌, nat_lt, slice_set}
-use Rattle.std.specs.List.{slice_get}
 use Rattle.terms.specs.declared.letter.Letter.{Letter as AnyLetter}
 use Rattle.terms.specs.declared.letter.Letter.TheVariants.{Cell, Symbol, Variable}
 use Rattle.terms.specs.declared.signature.Role.{Role}
@@ -13,7 +12,6 @@ use Rattle.terms.specs.Roots.{role_of, args_of}
 use Rattle.terms.specs.Sorting.{closed, fn_sort}
 use Rattle.words.specs.Faults.{first_not, is_declared, not_whole, suits, due_after, walk, wrong_place}
 use Rattle.terms.specs.Views.{given}
-use Rattle.drafts.specs.declared.fault.Side.{Side}
 use Rattle.drafts.specs.declared.fault.Side.TheVariants.{Left, Right}
 use Rattle.drafts.specs.declared.fault.RuleFault.{RuleFault}
 use Rattle.drafts.specs.declared.fault.RuleFault.TheVariants.{NotAwaited, Length, Letter, LeftCell, Whole, OtherFunction, InnerFunction, TwiceOnLeft, OnlyOnRight, Sort, NoRoom}

@@ -1,11 +1,11 @@
 -- What every draft is. Assumes nothing.
-use Rattle.std.specs.Prelude.{◌≡◌, ℕ, ◌<◌, true, List, [], ◌∷◌, map, length, take}
+use Rattle.std.specs.Prelude.{◌≡◌, ℕ, ◌<◌, true, List, ◌∷◌, map, length, take}
 use mathlib.Core.List.{Memᴰ}
 use Rattle.terms.specs.Terms.{cell, symbol, Term, var, con, fun, Terms, nil, ◌▸◌}
 use Rattle.terms.specs.Names.{well_formed}
 use Rattle.terms.specs.Signatures.{Declaration, Signature}
 use Rattle.words.specs.Words.{word}
-use Rattle.rewriting.specs.Rules.{Rule, left_side, Book, Different, SortCorrectRules, LeftLinear, Proper}
+use Rattle.rewriting.specs.Rules.{Rule, left_side, Different, SortCorrectRules, LeftLinear, Proper}
 use Rattle.drafts.specs.Drafts.{Sides, sides, Draft, in_turn}
 use Rattle.drafts.specs.Contents.{names}
 

@@ -1,5 +1,5 @@
 -- What the code's parts of a draft are.
-use Rattle.std.specs.Prelude.{ℕ, ◌+◌, Bool, true, ◌&&◌, List, [], ◌∷◌, map, length, take, drop, ◌==◌}
+use Rattle.std.specs.Prelude.{ℕ, ◌+◌, Bool, ◌&&◌, List, [], ◌∷◌, map, length, take, drop, ◌==◌}
 use Rattle.terms.specs.declared.signature.Signature.{Signature as Table}
 use Rattle.terms.specs.Views.{view}
 use Rattle.drafts.specs.declared.span.Span.{Span}

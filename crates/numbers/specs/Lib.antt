@@ -4,3 +4,4 @@ pub mod Ring
 pub mod Tenths
 pub mod Limits
 pub mod Bounds
+pub mod Laws

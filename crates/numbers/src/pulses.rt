@@ -1,6 +1,6 @@
 // Pulse counts: cells 0 to 999,999, and results held to those ends.
 ghost use Rattle.numbers.specs.Pulses.{pulses};
-ghost use Rattle.std.proofs.Common.{rules};
+ghost use Rattle.numbers.specs.Laws.{pulses_sound};
 
 use crate::kind::NumberKind;
 
@@ -15,7 +15,7 @@ pub struct PulseCount;
 impl NumberKind for PulseCount {
     ghost meaning = { λ _. pulses };
 
-    ghost sound = { Prim.search rules };
+    ghost sound = { λ _. pulses_sound };
 
     fn lawful(&self, cell: u32) -> bool {
         cell <= TOP

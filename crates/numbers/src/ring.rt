@@ -1,6 +1,6 @@
 // The trip ring: cells 0 to 9,999, and results taken modulo 10,000.
 ghost use Rattle.numbers.specs.Ring.{ring};
-ghost use Rattle.std.proofs.Common.{rules};
+ghost use Rattle.numbers.specs.Laws.{ring_sound};
 
 use crate::kind::NumberKind;
 
@@ -15,7 +15,7 @@ pub struct TripRing;
 impl NumberKind for TripRing {
     ghost meaning = { λ _. ring };
 
-    ghost sound = { Prim.search rules };
+    ghost sound = { λ _. ring_sound };
 
     fn lawful(&self, cell: u32) -> bool {
         cell < ROUND

@@ -1,7 +1,7 @@
 // Signed tenths: a cell read in two's complement, -9,999 to 9,999, and results held to those ends.
 ghost use Rattle.std.specs.Prelude.{◌≡◌};
 ghost use Rattle.numbers.specs.Tenths.{tenths, cell_of, held};
-ghost use Rattle.std.proofs.Common.{rules};
+ghost use Rattle.numbers.specs.Laws.{tenths_sound};
 
 use crate::kind::NumberKind;
 
@@ -25,7 +25,7 @@ fn hold(value: i32) -> u32
 impl NumberKind for SignedTenths {
     ghost meaning = { λ _. tenths };
 
-    ghost sound = { Prim.search rules };
+    ghost sound = { λ _. tenths_sound };
 
     fn lawful(&self, cell: u32) -> bool {
         let value = cell.cast_signed();

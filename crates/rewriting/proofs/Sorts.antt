@@ -1,7 +1,7 @@
 -- Steps keep a closed term closed, of its sort, and its cells lawful.
 use Rattle.std.proofs.Common.{◌≡◌, ℕ, zero, suc, Bool, true, false, List, [], ◌∷◌, Some, refl, ◌∙◌, subst, arith}
 use Rattle.numbers.specs.Meaning.{Meaning, Sound}
-use Rattle.terms.specs.Terms.{plus, minus, own, Term, var, con, fun, Terms, nil, ◌▸◌, Closed, AllClosed}
+use Rattle.terms.specs.Terms.{own, Term, var, con, fun, Terms, nil, ◌▸◌, Closed, AllClosed}
 use Rattle.terms.specs.Signatures.{Signature}
 use Rattle.terms.specs.Roots.{head_args, fn_args}
 use Rattle.terms.specs.Sorting.{Environment, Sorted, AllSorted, closed, fn_sort, Lawful, AllLawful}

@@ -1,9 +1,9 @@
 -- Letters and their numbers undo each other.
-use Rattle.std.proofs.Common.{◌≡◌, ℕ, ◌+◌, ◌-◌, ◌^◌, ◌<◌, ◌≤◌, Bool, true, false, cond, ◌&&◌, ltb, leb, Some, None, Option, sym, refl, ap, ◌∙◌, subst, arith}
+use Rattle.std.proofs.Common.{◌≡◌, ℕ, ◌+◌, ◌-◌, ◌^◌, Bool, true, false, cond, ◌&&◌, ltb, leb, Some, None, refl, ap, ◌∙◌, subst, arith}
 use Rattle.std.proofs.lemmas.Bool.{ltb-true, ltb-false, leb-true, lt-ltb, le-ltb, le-leb, and_parts, and_from, cond-true, cond-false}
 use Rattle.terms.specs.declared.letter.Letter.{Letter}
 use Rattle.terms.specs.declared.letter.Letter.TheVariants.{Cell, Symbol, Variable}
-use Rattle.terms.specs.Letters.{letter_of, number_of, InRange, OnlyLetter}
+use Rattle.terms.specs.Letters.{letter_of, number_of, InRange}
 
 pub zero_one : ◌≡◌ {A = ℕ} 0 1 → ⊥
 zero_one e = omega arith

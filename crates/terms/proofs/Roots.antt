@@ -1,9 +1,9 @@
 -- Roots and the numbers of their letters undo each other.
-use Rattle.std.proofs.Common.{◌≡◌, ℕ, zero, suc, ◌<◌, Bool, true, false, List, [], ◌∷◌, length, Some, None, Option, sym, refl, ap, ◌∙◌, subst}
+use Rattle.std.proofs.Common.{◌≡◌, ℕ, zero, suc, ◌<◌, Bool, true, false, length, Some, None, Option, sym, refl, ap, ◌∙◌, subst}
 use Rattle.std.specs.List.{slice_get}
 use Rattle.terms.specs.declared.letter.Letter.{Letter}
 use Rattle.terms.specs.declared.letter.Letter.TheVariants.{Cell, Symbol, Variable}
-use Rattle.terms.specs.Terms.{Head, cell, symbol, Fn, plus, minus, atmost, own}
+use Rattle.terms.specs.Terms.{cell, symbol}
 use Rattle.terms.specs.Options.{onward, mapped}
 use Rattle.terms.specs.Letters.{letter_of, number_of, InRange}
 use Rattle.terms.specs.Signatures.{Declaration, Signature}

@@ -1,13 +1,13 @@
 -- What the code's signature holds is what its view says.
-use Rattle.std.proofs.Common.{◌≡◌, ℕ, zero, suc, ◌+◌, ◌<◌, ◌≤◌, Bool, true, false, cond, ◌&&◌, ltb, leb, List, [], ◌∷◌, ◌++◌, map, length, get_or, take, set, Some, None, Option, sym, refl, ap, ◌∙◌, subst, arith}
+use Rattle.std.proofs.Common.{◌≡◌, ℕ, zero, suc, ◌+◌, ◌<◌, ◌≤◌, Bool, true, false, cond, ◌&&◌, ltb, leb, List, [], ◌∷◌, ◌++◌, map, length, get_or, take, set, Some, None, refl, ap, ◌∙◌, arith}
 use Rattle.std.specs.List.{slice_get}
 use Rattle.std.proofs.lemmas.Option.{slice_get_past}
 use Rattle.std.proofs.lemmas.List.{length-take-le, length-map, take_more_set, map_push, get_or-map, get_or-take}
-use Rattle.std.proofs.lemmas.Bool.{cond-true, cond-false, lt-ltb, le-ltb, le-leb, lt-leb, leb-true, and_from, and_left, and_right}
+use Rattle.std.proofs.lemmas.Bool.{cond-true, cond-false, lt-ltb, le-ltb, le-leb, leb-true, and_from, and_left}
 use Rattle.terms.specs.declared.name.Name.{Name}
 use Rattle.terms.specs.declared.signature.Entry.{Entry}
 use Rattle.terms.specs.declared.signature.Signature.{Signature as Table}
-use Rattle.terms.specs.Signatures.{Declaration, Signature, Change, add_sort, add_symbol}
+use Rattle.terms.specs.Signatures.{Declaration, Signature, add_sort, add_symbol}
 use Rattle.terms.specs.Views.{bytes_of, declaration, view}
 use Rattle.terms.proofs.Letters.{zero_one}
 

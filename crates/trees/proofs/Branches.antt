@@ -1,12 +1,12 @@
 -- A branch of a tree that is grown from a draft.
-use Rattle.std.proofs.Common.{◌≡◌, ℕ, zero, suc, ◌+◌, ◌-◌, ◌<◌, ◌≤◌, Bool, true, List, [], ◌∷◌, map, length, get_or, take, drop, Some, None, Option, sym, refl, ap, ◌∙◌, subst, arith}
+use Rattle.std.proofs.Common.{◌≡◌, ℕ, zero, suc, ◌+◌, ◌-◌, ◌<◌, ◌≤◌, Bool, true, List, [], ◌∷◌, map, length, get_or, take, Some, None, Option, sym, ap, ◌∙◌, subst, arith}
 use mathlib.Core.List.{Memᴰ}
 use Rattle.std.specs.List.{slice_get}
 use Rattle.std.proofs.lemmas.List.{length-take}
 use Rattle.terms.specs.declared.signature.Entry.{Entry}
 use Rattle.terms.specs.declared.signature.Signature.{Signature as Table}
 use Rattle.terms.specs.Terms.{symbol}
-use Rattle.terms.specs.Signatures.{Declaration, Signature}
+use Rattle.terms.specs.Signatures.{Signature}
 use Rattle.terms.specs.Roots.{args_in, head_args}
 use Rattle.terms.specs.Views.{declaration, view}
 use Rattle.rewriting.specs.Rules.{Rule, Book, kept}

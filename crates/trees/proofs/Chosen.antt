@@ -2,7 +2,7 @@
 use Rattle.std.proofs.Common.{◌≡◌, ℕ, zero, suc, ◌+◌, ◌^◌, ◌<◌, ◌≤◌, Bool, true, false, cond, not, ◌||◌, eqb, List, [], ◌∷◌, ◌++◌, map, length, get_or, drop, set, Some, None, Option, sym, refl, ap, ◌∙◌, inl, inr, add-one, arith}
 use mathlib.Core.List.{Memᴰ}
 use Rattle.std.specs.List.{slice_get}
-use Rattle.std.proofs.lemmas.List.{length-map, drop_all, get_or-set_same, get_or-set_other}
+use Rattle.std.proofs.lemmas.List.{drop_all, get_or-set_same, get_or-set_other}
 use Rattle.std.proofs.lemmas.Bool.{cases_eq}
 use Rattle.std.proofs.lemmas.Bool.Decides.{same_from_decides, Decides-eqb, Decides-like}
 use Rattle.terms.specs.Terms.{Head, cell, symbol}
@@ -13,12 +13,9 @@ use Rattle.rewriting.specs.Rules.{Rule, left_side, kept}
 use Rattle.rewriting.specs.FixedTree.{same_head, constructor_at, has_at, without, joined, constructors_at}
 use Rattle.rewriting.proofs.Lists.{kept_all}
 use Rattle.drafts.specs.declared.draft.Draft.{Draft as Store}
-use Rattle.drafts.specs.Drafts.{Sides}
 use Rattle.drafts.specs.Rules.{starts_with}
-use Rattle.drafts.specs.Statements.{written}
 use Rattle.drafts.specs.Books.{book_of}
 use Rattle.drafts.specs.Stores.{seen}
-use Rattle.drafts.proofs.Sound.{book_rules}
 use Rattle.trees.proofs.LeftSides.{left_at}
 use Rattle.trees.specs.Rows.{head_symbol, chosen, heads_at, is_head, is_met, put, new_heads}
 

@@ -14,7 +14,7 @@ use Rattle.rewriting.specs.Promises.{Ruled, NoLonger}
 use Rattle.rewriting.proofs.Lists.{mem_kept, kept_mem}
 use Rattle.rewriting.proofs.Occurrences.{mem_map, map_mem}
 use Rattle.drafts.specs.declared.draft.Draft.{Draft as Store}
-use Rattle.drafts.specs.Drafts.{Sides, in_turn, awaited, letters_in, longest_side}
+use Rattle.drafts.specs.Drafts.{in_turn, awaited, letters_in, longest_side}
 use Rattle.drafts.specs.Statements.{written}
 use Rattle.drafts.specs.Books.{book_of}
 use Rattle.drafts.specs.Stores.{seen}

@@ -1,29 +1,24 @@
 -- Trees grow node by node.
-use Rattle.std.proofs.Common.{◌≡◌, ℕ, zero, suc, ◌+◌, ◌-◌, ◌<◌, ◌≤◌, Bool, true, false, cond, ◌&&◌, List, [], ◌∷◌, ◌++◌, map, length, get_or, take, drop, Some, None, Option, sym, refl, ap, ◌∙◌, subst, ap₂, append_assoc, append-nil, arith}
+use Rattle.std.proofs.Common.{◌≡◌, ℕ, zero, suc, ◌+◌, ◌-◌, ◌<◌, ◌≤◌, Bool, true, false, ◌&&◌, List, [], ◌∷◌, ◌++◌, map, length, get_or, take, drop, Some, None, Option, sym, refl, ap, ◌∙◌, subst, ap₂, append_assoc, append-nil, arith}
 use mathlib.Core.List.Memᴰ
 use mathlib.Core.List.{Memᴰ}
-use Rattle.std.specs.List.{slice_get}
 use Rattle.std.proofs.lemmas.List.{map-append, take_all, drop_all, take_more, drop_more, take-append-drop}
 use Rattle.terms.specs.Terms.{Head, symbol}
 use Rattle.terms.specs.Options.{onward, mapped}
 use Rattle.terms.specs.Signatures.{Signature}
-use Rattle.terms.proofs.Letters.{zero_one}
 use Rattle.rewriting.specs.Rules.{Rule, Book, kept}
-use Rattle.rewriting.specs.Trees.{Node as Tree, at_rule, branch, Nodes as Children, no_child, child, heads}
-use Rattle.rewriting.specs.FixedTree.{has_at, first_shared, constructors_at, children, or_else}
-use Rattle.rewriting.specs.Growing.{sole_open, opened_under, grow, paid, paid_under}
+use Rattle.rewriting.specs.Trees.{Node as Tree, at_rule, branch, Nodes as Children, no_child, child}
+use Rattle.rewriting.specs.FixedTree.{has_at, first_shared, constructors_at, children}
+use Rattle.rewriting.specs.Growing.{sole_open, opened_under, grow, paid_under}
 use Rattle.rewriting.specs.Completeness.{is_complete, are_complete}
 use Rattle.drafts.specs.Drafts.{longest_side}
-use Rattle.trees.specs.declared.path.Path.{Path}
 use Rattle.trees.specs.declared.node.Node.{Node}
 use Rattle.trees.specs.declared.node.Kind.{Kind}
-use Rattle.trees.specs.declared.node.Kind.TheVariants.{Rule as RuleNode, Branch}
 use Rattle.trees.specs.declared.grown.Grown.{Grown}
 use Rattle.trees.specs.declared.store.Store.{Store}
-use Rattle.trees.specs.Views.{steps_of}
 use Rattle.trees.specs.Rows.{chosen, put, new_head, new_heads}
 use Rattle.trees.specs.Nodes.{Before, first_child, Is, is_rule, is_branch, Linked, no_link, link}
-use Rattle.trees.specs.Growth.{nodes_of, IsGrown, cost, Added}
+use Rattle.trees.specs.Growth.{nodes_of, cost, Added}
 use Rattle.trees.proofs.Places.{nth_below, nth_front, nth_last}
 
 -- a tree in an array of nodes stays where nodes are added

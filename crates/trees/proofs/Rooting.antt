@@ -1,5 +1,5 @@
 -- The trees of a draft's functions, one after the other.
-use Rattle.std.proofs.Common.{◌≡◌, ℕ, zero, suc, ◌+◌, ◌^◌, ◌<◌, ◌≤◌, Bool, true, false, ◌⊎◌, List, [], ◌∷◌, ◌++◌, length, get_or, drop, set, Some, None, Ok, Err, Option, Result, sym, refl, ap, ◌∙◌, subst, ap₂, inl, inr, append_assoc, append-nil, arith}
+use Rattle.std.proofs.Common.{◌≡◌, ℕ, zero, suc, ◌+◌, ◌^◌, ◌<◌, ◌≤◌, Bool, true, false, ◌⊎◌, List, [], ◌∷◌, ◌++◌, length, drop, set, Some, None, Ok, Err, Option, Result, sym, refl, ap, ◌∙◌, subst, ap₂, inl, inr, append_assoc, arith}
 use Rattle.std.specs.List.{slice_get}
 use Rattle.std.proofs.lemmas.List.{length-take-le, drop_all}
 use Rattle.std.proofs.lemmas.Bool.{cases_lt}
@@ -24,14 +24,13 @@ use Rattle.drafts.proofs.Sound.{sound_contents, counted_contents}
 use Rattle.trees.specs.declared.fault.CheckFault.{CheckFault}
 use Rattle.trees.specs.declared.fault.CheckFault.TheVariants.{NoTree, Incomplete}
 use Rattle.trees.specs.declared.node.Node.{Node}
-use Rattle.trees.specs.declared.node.Kind.{Kind}
 use Rattle.trees.specs.declared.store.Store.{Store}
 use Rattle.trees.specs.declared.trees.Trees.{Trees}
 use Rattle.trees.specs.Checks.{function_role, judged, symbol_fault, fault_at, first_fault}
 use Rattle.trees.specs.Rows.{chosen}
 use Rattle.trees.specs.Nodes.{Is}
 use Rattle.trees.specs.Growth.{nodes_of, AtStage, cost, Added}
-use Rattle.trees.specs.Standing.{nodes_in, roots_in, IsFunction, Rooted, AllRooted, owed, TreeAdded}
+use Rattle.trees.specs.Standing.{nodes_in, roots_in, IsFunction, Rooted, owed, TreeAdded}
 use Rattle.trees.proofs.Places.{nth_below, nth_front, nth_last, nth_set_same, nth_set_before}
 use Rattle.trees.proofs.Drafted.{draft_short, draft_ruled, owed_split}
 use Rattle.trees.proofs.Scanned.{role_symbol}

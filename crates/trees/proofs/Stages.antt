@@ -1,22 +1,21 @@
 -- What holds wherever a tree is grown, and what its growth comes to.
-use Rattle.std.proofs.Common.{◌≡◌, ℕ, zero, suc, ◌+◌, ◌-◌, ◌<◌, ◌≤◌, Bool, true, ◌&&◌, List, [], ◌∷◌, ◌++◌, map, length, take, drop, Some, None, Option, sym, refl, ap, ◌∙◌, subst, ap₂, append_assoc, append-nil, arith}
+use Rattle.std.proofs.Common.{◌≡◌, ℕ, suc, ◌+◌, ◌-◌, ◌<◌, ◌≤◌, Bool, true, ◌&&◌, List, [], ◌∷◌, ◌++◌, map, length, Some, None, Option, sym, refl, ap, ◌∙◌, subst, ap₂, append_assoc, append-nil, arith}
 use mathlib.Core.List.{Memᴰ}
 use Rattle.std.specs.List.{slice_get}
 use Rattle.terms.specs.Terms.{Head, symbol}
 use Rattle.terms.specs.Options.{mapped}
 use Rattle.terms.specs.Signatures.{Signature}
 use Rattle.rewriting.specs.Rules.{Rule, Book, kept}
-use Rattle.rewriting.specs.Trees.{Node as Tree, at_rule, branch, Nodes as Children, heads}
+use Rattle.rewriting.specs.Trees.{Node as Tree, branch, heads}
 use Rattle.rewriting.specs.FixedTree.{has_at, first_shared, constructors_at, children}
 use Rattle.rewriting.specs.Growing.{sole_open, opened_under, grow, Reached, in_branch, paid_under, Within}
-use Rattle.rewriting.specs.Completeness.{covers, is_complete, are_complete}
+use Rattle.rewriting.specs.Completeness.{covers}
 use Rattle.rewriting.specs.Promises.{NoLonger}
 use Rattle.rewriting.proofs.Building.{first_is, children_heads}
 use Rattle.rewriting.proofs.Growing.{grows_fixed_tree}
 use Rattle.drafts.specs.Drafts.{longest_side}
 use Rattle.trees.specs.declared.path.Path.{Path}
 use Rattle.trees.specs.declared.node.Node.{Node}
-use Rattle.trees.specs.declared.node.Kind.{Kind}
 use Rattle.trees.specs.declared.node.Kind.TheVariants.{Rule as RuleNode, Branch}
 use Rattle.trees.specs.declared.grown.Grown.{Grown}
 use Rattle.trees.specs.declared.store.Store.{Store}

@@ -1,5 +1,5 @@
 -- Rules that a mask leaves, and the symbols that they have at a position. Assumes nothing.
-use Rattle.std.specs.Prelude.{◌≡◌, ℕ, ◌+◌, Bool, true, false, cond, ◌||◌, List, [], ◌∷◌, ◌++◌, map, drop, Some, None, Option, nat_eq}
+use Rattle.std.specs.Prelude.{◌≡◌, ℕ, ◌+◌, Bool, true, false, cond, ◌||◌, List, [], ◌∷◌, ◌++◌, drop, Some, None, Option, nat_eq}
 use Rattle.std.specs.List.{slice_get}
 use Rattle.terms.specs.declared.letter.Letter.{Letter}
 use Rattle.terms.specs.declared.letter.Letter.TheVariants.{Cell, Symbol, Variable}

@@ -1,15 +1,14 @@
 -- What the trees of a draft are.
-use Rattle.std.specs.Prelude.{◌≡◌, ℕ, suc, ◌+◌, ◌<◌, ◌≤◌, Bool, List, length, Some, None, Ok, Err, Option, Result, nat_le}
+use Rattle.std.specs.Prelude.{◌≡◌, ℕ, suc, ◌+◌, ◌<◌, ◌≤◌, List, length, Some, None, Ok, Err, Option, Result, nat_le}
 use Rattle.std.specs.List.{slice_get}
 use Rattle.terms.specs.declared.signature.Role.TheVariants.{Function}
 use Rattle.terms.specs.Terms.{own}
 use Rattle.terms.specs.Signatures.{Declaration, Signature}
 use Rattle.terms.specs.Roots.{call, Stands}
-use Rattle.rewriting.specs.Rules.{Rule, Book, kept}
+use Rattle.rewriting.specs.Rules.{Book, kept}
 use Rattle.rewriting.specs.Trees.{Node as Tree}
 use Rattle.rewriting.specs.FixedTree.{fixed_tree}
 use Rattle.drafts.specs.Drafts.{longest_side}
-use Rattle.trees.specs.declared.fault.CheckFault.{CheckFault}
 use Rattle.trees.specs.declared.node.Node.{Node}
 use Rattle.trees.specs.declared.trees.Trees.{Trees}
 use Rattle.trees.specs.Nodes.{Before, first_child, Is}

@@ -1,16 +1,15 @@
 -- Parts of terms are parts of words.
-use Rattle.std.proofs.Common.{◌≡◌, ℕ, zero, suc, ◌+◌, ◌<◌, ◌≤◌, Bool, true, false, cond, ltb, List, [], ◌∷◌, ◌++◌, length, take, drop, Some, None, Option, sym, refl, ap, ◌∙◌, subst, ap₂, ⊎_elim, append_assoc, append-nil, add-zero, add-one, arith}
+use Rattle.std.proofs.Common.{◌≡◌, ℕ, zero, suc, ◌+◌, ◌<◌, ◌≤◌, cond, ltb, List, [], ◌∷◌, ◌++◌, length, take, drop, Some, None, Option, sym, refl, ap, ◌∙◌, subst, ap₂, ⊎_elim, append_assoc, append-nil, add-one, arith}
 use Rattle.std.proofs.lemmas.List.{drop-drop, drop_at, take_at, length-append}
 use Rattle.std.proofs.lemmas.Bool.{cond-true, cond-false, lt-ltb, le-ltb, cases_lt}
-use Rattle.words.specs.declared.part.Part.{Part}
 use Rattle.terms.specs.Terms.{Term, var, con, fun, Terms, nil, ◌▸◌, count}
 use Rattle.terms.specs.Options.{onward, mapped, more, ahead, and_then}
 use Rattle.terms.specs.Signatures.{Signature}
-use Rattle.terms.specs.Roots.{Root, variable, head, call, number, Stands, root_args, arity}
+use Rattle.terms.specs.Roots.{Root, variable, head, call, number, Stands, root_args}
 use Rattle.words.specs.Words.{word, words, Fits, AllFit}
 use Rattle.words.specs.Ends.{end_of, part_end}
 use Rattle.terms.specs.Positions.{part, part_of, graft, graft_in}
-use Rattle.words.specs.Places.{place, part_at, letters_of, replaced}
+use Rattle.words.specs.Places.{place, part_at}
 use Rattle.words.specs.Statements.{Cuts, CutsPart}
 use Rattle.terms.proofs.Letters.{zero_one}
 use Rattle.terms.proofs.Roots.{arity_back}

@@ -1,12 +1,11 @@
 -- The definitions on a small signature: the sort level with zero, up and meet.
-use Rattle.std.proofs.Common.{◌≡◌, ℕ, ◌+◌, ◌-◌, ◌^◌, Bool, true, false, leb, List, [], ◌∷◌, Some, None, Ok, Err, codes, Option, Result, refl}
+use Rattle.std.proofs.Common.{◌≡◌, ℕ, ◌+◌, ◌^◌, true, false, leb, List, [], ◌∷◌, Some, None, Ok, codes, Option, refl}
 use Rattle.terms.specs.declared.letter.Letter.{Letter as AnyLetter}
 use Rattle.terms.specs.declared.letter.Letter.TheVariants.{Symbol, Variable}
 use Rattle.terms.specs.declared.signature.Role.TheVariants.{Constructor, Function}
-use Rattle.words.specs.declared.part.Part.{Part}
 use Rattle.words.specs.declared.fault.WordFault.{WordFault}
 use Rattle.words.specs.declared.fault.WordFault.TheVariants.{Length, Letter, Whole, Sort, Cell}
-use Rattle.terms.specs.Terms.{Head, cell, symbol, Fn, plus, own, Term, var, con, fun, Terms, nil, ◌▸◌}
+use Rattle.terms.specs.Terms.{symbol, own, Term, con, fun, nil, ◌▸◌}
 use Rattle.terms.specs.Letters.{letter_of}
 use Rattle.terms.specs.Names.{name_of}
 use Rattle.terms.specs.Signatures.{Signature, built_in, add_sort, add_symbol, symbol_named}
@@ -14,7 +13,7 @@ use Rattle.terms.specs.Roots.{arity}
 use Rattle.words.specs.Words.{word, read}
 use Rattle.words.specs.Ends.{part_end}
 use Rattle.terms.specs.Sorting.{Environment}
-use Rattle.terms.specs.Positions.{part, graft}
+use Rattle.terms.specs.Positions.{graft}
 use Rattle.words.specs.Places.{part_at, replaced}
 use Rattle.words.specs.Faults.{walk, is_value, lawful_fault}
 

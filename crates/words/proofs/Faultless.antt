@@ -1,5 +1,5 @@
 -- A word has no fault exactly when it is the word of a closed term of some sort.
-use Rattle.std.proofs.Common.{◌≡◌, ℕ, suc, ◌≤◌, Bool, true, false, cond, ◌||◌, eqb, ltb, ◌↔◌, List, [], ◌∷◌, ◌++◌, length, Some, None, Option, sym, refl, ap, ◌∙◌, subst, ap₂, append-nil, arith}
+use Rattle.std.proofs.Common.{◌≡◌, ℕ, suc, ◌≤◌, Bool, true, false, cond, ◌||◌, eqb, ltb, List, [], ◌∷◌, ◌++◌, length, Some, None, Option, sym, refl, ap, ◌∙◌, subst, ap₂, append-nil, arith}
 use Rattle.std.proofs.lemmas.List.{length-append, nil_from_length}
 use Rattle.std.proofs.lemmas.Bool.{ltb-false, le-ltb, ne_eqb, or_parts, or_from, cond-false}
 use Rattle.words.specs.declared.fault.WordFault.{WordFault}
@@ -18,7 +18,7 @@ use Rattle.terms.proofs.Roots.{args_back}
 use Rattle.terms.proofs.Options.{more_none}
 use Rattle.words.proofs.Ends.{part_ends, length_in_front}
 use Rattle.words.proofs.Scans.{closed_word, lawful_word}
-use Rattle.words.proofs.Sorts.{past, sorted_words, words_walk}
+use Rattle.words.proofs.Sorts.{sorted_words, words_walk}
 
 -- no fault, in parts
 size_none : (b : Bool) (o : Option WordFault) → cond b (Some Length) o ≡ None → (b ≡ false) × (o ≡ None)

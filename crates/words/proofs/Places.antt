@@ -1,13 +1,13 @@
 -- The steps of the loops that look for a part at a position.
-use Rattle.std.proofs.Common.{◌≡◌, ℕ, zero, suc, ◌+◌, ◌-◌, ◌<◌, ◌≤◌, cond, ltb, List, [], ◌∷◌, length, get_or, drop, Some, None, Option, sym, refl, ap, ◌∙◌, add-zero, arith}
+use Rattle.std.proofs.Common.{◌≡◌, ℕ, zero, suc, ◌+◌, ◌-◌, ◌<◌, ◌≤◌, cond, ltb, List, ◌∷◌, length, get_or, drop, Some, None, Option, sym, refl, ap, ◌∙◌, add-zero, arith}
 use Rattle.std.proofs.lemmas.List.{drop-drop, drop_more, drop_all}
-use Rattle.std.proofs.lemmas.Bool.{cond-true, cond-false, lt-ltb, le-ltb}
+use Rattle.std.proofs.lemmas.Bool.{cond-true, lt-ltb}
 use Rattle.terms.specs.Options.{onward, more, ahead, and_then}
 use Rattle.terms.specs.Signatures.{Signature}
 use Rattle.terms.specs.Roots.{arity}
 use Rattle.words.specs.Ends.{end_of}
 use Rattle.words.specs.Places.{argument_place, place}
-use Rattle.terms.proofs.Options.{ahead_zero, ahead_ahead}
+use Rattle.terms.proofs.Options.{ahead_ahead}
 
 module _ (S : Signature) where
   -- the argument i of the term that a letter begins

@@ -1,8 +1,7 @@
 -- A scan of a word's letters finds nothing exactly when its term has what the letters are tested for.
-use Rattle.std.proofs.Common.{◌≡◌, ℕ, ◌+◌, ◌<◌, ◌≤◌, Bool, true, false, cond, ◌↔◌, List, [], ◌∷◌, ◌++◌, length, get_or, drop, Some, None, Option, sym, refl, ap, ◌∙◌, subst, add-zero}
+use Rattle.std.proofs.Common.{◌≡◌, ℕ, ◌+◌, ◌<◌, ◌≤◌, Bool, true, false, cond, ◌↔◌, List, [], ◌∷◌, ◌++◌, length, get_or, drop, Some, None, Option, sym, refl, ap, ◌∙◌, add-zero}
 use Rattle.std.proofs.lemmas.List.{at_drop_more, at_drop_all}
 use Rattle.std.proofs.lemmas.Bool.{cond-true, cond-false, both_ways}
-use Rattle.terms.specs.declared.letter.Letter.{Letter}
 use Rattle.terms.specs.Terms.{Head, cell, symbol, Fn, Term, var, con, fun, Terms, nil, ◌▸◌, Closed, AllClosed, Value, Values}
 use Rattle.terms.specs.Options.{passes, more, ahead}
 use Rattle.terms.specs.Signatures.{Signature}

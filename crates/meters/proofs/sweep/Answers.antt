@@ -1,6 +1,6 @@
 -- One more panel moves from those to come to those that stand. Assumes nothing.
-use Rattle.std.proofs.Common.{◌≡◌, ◌<◌, ◌≤◌, true, leb, List, [], ◌++◌, length, take, drop, sym, ap, ◌∙◌, subst, append-nil, arith}
-use Rattle.std.proofs.lemmas.List.{take_all, drop_all, take_more_set, drop-set-lt, take-append-drop}
+use Rattle.std.proofs.Common.{◌≡◌, ◌<◌, true, leb, List, [], ◌++◌, length, take, drop, sym, ap, ◌∙◌, subst, append-nil, arith}
+use Rattle.std.proofs.lemmas.List.{drop_all, take_more_set, drop-set-lt, take-append-drop}
 use Rattle.std.proofs.lemmas.Bool.{le-leb, cond-true}
 use Rattle.meters.specs.declared.Panel.{Panel}
 use Rattle.meters.specs.Sweep.{swept, last_of, AddsUp}

@@ -1,4 +1,4 @@
-use Rattle.std.proofs.Common.{◌≡◌, sym, ◌∙◌}
+use Rattle.std.proofs.Common.{sym, ◌∙◌}
 use Rattle.drafts.specs.Rules.{is_cell}
 use Rattle.drafts.proofs.Firsts.{first_here, first_more, first_all}
 use Rattle.drafts.proofs.shape.first_cell.Goals as goal

@@ -1,4 +1,4 @@
-use Rattle.std.proofs.Common.{◌≡◌, sym, ◌∙◌}
+use Rattle.std.proofs.Common.{sym, ◌∙◌}
 use Rattle.terms.specs.Views.{view}
 use Rattle.drafts.specs.Rules.{is_function}
 use Rattle.drafts.proofs.Firsts.{first_here, first_more, first_all}

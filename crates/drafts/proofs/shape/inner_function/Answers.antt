@@ -1,4 +1,4 @@
-use Rattle.std.proofs.Common.{◌≡◌, ◌<◌, length, Some, None, sym, ap, ◌∙◌, arith, rules}
+use Rattle.std.proofs.Common.{◌<◌, length, ap, ◌∙◌, arith, rules}
 use Rattle.terms.specs.Options.{more}
 use Rattle.terms.specs.Views.{view}
 use Rattle.drafts.proofs.Firsts.{inner_rest, rest_within}

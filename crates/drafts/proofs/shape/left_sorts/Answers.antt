@@ -1,4 +1,4 @@
-use Rattle.std.proofs.Common.{◌≡◌, ℕ, ◌+◌, ◌*◌, ◌≤◌, List, [], ◌∷◌, length, get_or, drop, Option, sym, ap, ◌∙◌, arith, rules}
+use Rattle.std.proofs.Common.{ℕ, ◌+◌, List, length, get_or, drop, Option, sym, ap, ◌∙◌, arith}
 use Rattle.terms.specs.Roots.{args_of}
 use Rattle.words.specs.Faults.{due_after}
 use Rattle.terms.specs.Views.{view}

@@ -1,4 +1,4 @@
-use Rattle.std.proofs.Common.{◌≡◌, sym, ◌∙◌}
+use Rattle.std.proofs.Common.{sym, ◌∙◌}
 use Rattle.drafts.proofs.Firsts.{stands_here, stands_more, stands_all}
 use Rattle.drafts.proofs.shape.stands_in.Goals as goal
 

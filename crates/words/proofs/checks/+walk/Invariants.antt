@@ -1,4 +1,4 @@
-use Rattle.std.proofs.Common.{◌≡◌, ◌≤◌, length}
+use Rattle.std.proofs.Common.{◌≤◌, length}
 use Rattle.terms.specs.Views.{view, given as given_sorts}
 use Rattle.words.proofs.Sorts.{Walked}
 use Rattle.words.proofs.checks.+walk.Given as goal

@@ -1,5 +1,5 @@
-use Rattle.std.proofs.Common.{◌≡◌, Bool, sym, ap, ◌∙◌, subst}
-use Rattle.words.specs.Faults.{is_in_value, nowhere, is_value}
+use Rattle.std.proofs.Common.{sym, ap, ◌∙◌, subst}
+use Rattle.words.specs.Faults.{is_in_value, nowhere}
 use Rattle.words.specs.Statements.{TellsValue}
 use Rattle.terms.specs.Views.{view}
 use Rattle.words.proofs.Scans.{scan_here, scan_more, scan_all, tells_value}

@@ -1,4 +1,4 @@
-use Rattle.std.proofs.Common.{◌≡◌, ltb, length, sym, ap, ◌∙◌, subst}
+use Rattle.std.proofs.Common.{ltb, length, sym, ap, ◌∙◌, subst}
 use Rattle.std.proofs.lemmas.Bool.{cond-true, cond-false, lt-ltb, le-ltb}
 use Rattle.words.specs.Faults.{past_end}
 use Rattle.words.specs.Statements.{TellsWhole}

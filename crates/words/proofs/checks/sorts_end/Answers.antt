@@ -1,4 +1,4 @@
-use Rattle.std.proofs.Common.{◌≡◌, sym, subst}
+use Rattle.std.proofs.Common.{sym, subst}
 use Rattle.words.specs.Statements.{FindsSort}
 use Rattle.terms.specs.Views.{view, given}
 use Rattle.words.proofs.Sorts.{finds_sort}

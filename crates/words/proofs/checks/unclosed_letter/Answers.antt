@@ -1,4 +1,4 @@
-use Rattle.std.proofs.Common.{◌≡◌, sym, ◌∙◌}
+use Rattle.std.proofs.Common.{sym, ◌∙◌}
 use Rattle.words.specs.Faults.{is_closed}
 use Rattle.terms.specs.Views.{view}
 use Rattle.words.proofs.Scans.{scan_here, scan_more, scan_all}

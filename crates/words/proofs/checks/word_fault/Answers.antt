@@ -1,5 +1,4 @@
-use Rattle.std.proofs.Common.{◌≡◌, Some, None, Option, sym, subst, rules}
-use Rattle.words.specs.declared.fault.WordFault.{WordFault}
+use Rattle.std.proofs.Common.{◌≡◌, Some, None, sym, subst, rules}
 use Rattle.words.specs.declared.fault.WordFault.TheVariants.{Length, Letter, Whole, Sort}
 use Rattle.words.specs.Faults.{word_fault}
 use Rattle.words.specs.Statements.{ClosedWord, NoFaultAt}

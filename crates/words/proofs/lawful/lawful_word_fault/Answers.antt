@@ -1,4 +1,4 @@
-use Rattle.std.proofs.Common.{◌≡◌, Some, None, Option, sym, subst, rules}
+use Rattle.std.proofs.Common.{◌≡◌, Some, None, sym, subst, rules}
 use Rattle.words.specs.declared.fault.WordFault.TheVariants.{Cell}
 use Rattle.words.specs.Faults.{lawful_fault}
 use Rattle.words.specs.Statements.{LawfulClosedWord, NoFaultAt}

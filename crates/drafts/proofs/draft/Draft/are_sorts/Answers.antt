@@ -1,4 +1,4 @@
-use Rattle.std.proofs.Common.{◌≡◌, length, sym, refl, ◌∙◌}
+use Rattle.std.proofs.Common.{length, sym, ◌∙◌}
 use Rattle.drafts.specs.Stores.{seen}
 use Rattle.drafts.proofs.Lists.{below_more, not_below, below_all}
 use Rattle.drafts.proofs.draft.Draft.are_sorts.Goals as goal

@@ -1,4 +1,4 @@
-use Rattle.std.proofs.Common.{◌≡◌, ltb, leb, length, None, Ok, Err, ap, ◌∙◌, arith}
+use Rattle.std.proofs.Common.{ltb, leb, length, None, Ok, Err, ap, ◌∙◌, arith}
 use Rattle.std.proofs.lemmas.Result.{err_from_is_err_and}
 use Rattle.std.proofs.lemmas.Bool.{lt-ltb, le-ltb, le-leb, lt-leb}
 use Rattle.drafts.specs.declared.fault.ContentFault.TheVariants.{BuiltInSort, NoNumberLeft}

@@ -1,4 +1,4 @@
-use Rattle.std.proofs.Common.{◌≡◌, ℕ, ◌+◌, ◌<◌, ◌≤◌, ltb, length, get_or, take, sym, ap, ◌∙◌, ap₂, arith, rules}
+use Rattle.std.proofs.Common.{◌≡◌, ℕ, ◌+◌, ltb, length, get_or, take, sym, ap, ◌∙◌, ap₂, arith, rules}
 use Rattle.terms.proofs.Tables.{length_symbols}
 use Rattle.drafts.specs.Drafts.{functions_in}
 use Rattle.drafts.specs.Stores.{seen}

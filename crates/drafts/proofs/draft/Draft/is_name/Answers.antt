@@ -1,4 +1,4 @@
-use Rattle.std.proofs.Common.{◌≡◌, ℕ, Bool, true, false, ◌||◌, List, map, is_some, Some, None, Option, sym, refl, ap, ◌∙◌}
+use Rattle.std.proofs.Common.{◌≡◌, ℕ, true, false, ◌||◌, List, map, is_some, Some, None, Option, sym, refl, ap, ◌∙◌}
 use Rattle.terms.specs.Names.{find_name}
 use Rattle.terms.specs.Signatures.{Declaration}
 use Rattle.terms.specs.Views.{view}

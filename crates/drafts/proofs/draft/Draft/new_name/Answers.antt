@@ -1,4 +1,4 @@
-use Rattle.std.proofs.Common.{◌≡◌, ℕ, Bool, true, false, cond, not, List, Some, None, Ok, Err, Option, sym, refl, ap, ◌∙◌, arith}
+use Rattle.std.proofs.Common.{not, None, Ok, sym, ap, ◌∙◌, arith}
 use Rattle.terms.specs.Names.{well_formed}
 use Rattle.drafts.specs.declared.fault.ContentFault.TheVariants.{RuleStands, MalformedName, NameTaken}
 use Rattle.drafts.specs.Contents.{some_rule, is_taken}

@@ -1,4 +1,4 @@
-use Rattle.std.proofs.Common.{◌≡◌, Ok, Err, Option, sym, ap, ◌∙◌}
+use Rattle.std.proofs.Common.{Ok, Err, Option, sym, ap, ◌∙◌}
 use Rattle.std.proofs.lemmas.Result.{err_from_is_err_and}
 use Rattle.drafts.specs.declared.fault.ContentFault.{ContentFault}
 use Rattle.drafts.specs.Contents.{name_fault, sorts_fault}

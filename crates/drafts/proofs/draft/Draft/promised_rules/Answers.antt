@@ -1,4 +1,4 @@
-use Rattle.std.proofs.Common.{◌≡◌, ◌+◌, ◌<◌, ◌≤◌, length, get_or, take, sym, ap, ◌∙◌, arith, rules}
+use Rattle.std.proofs.Common.{◌≡◌, ◌+◌, length, get_or, take, sym, ap, ◌∙◌, arith, rules}
 use Rattle.terms.proofs.Tables.{length_symbols}
 use Rattle.drafts.specs.Drafts.{total}
 use Rattle.drafts.specs.Stores.{seen}

@@ -1,4 +1,4 @@
-use Rattle.std.proofs.Common.{◌≡◌, Some, Option, sym, ap, ◌∙◌, arith, rules}
+use Rattle.std.proofs.Common.{Some, sym, ap, ◌∙◌, arith}
 use Rattle.terms.specs.Options.{mapped}
 use Rattle.drafts.specs.Drafts.{Sides}
 use Rattle.drafts.proofs.Stores.{rule_in, rule_out, span_within}

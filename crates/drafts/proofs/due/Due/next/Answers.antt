@@ -1,4 +1,4 @@
-use Rattle.std.proofs.Common.{◌≡◌, ◌<◌, ◌≤◌, length, arith, rules}
+use Rattle.std.proofs.Common.{◌≡◌, length, arith, rules}
 use Rattle.drafts.proofs.Dues.{take_none, take_one}
 use Rattle.drafts.proofs.due.Due.next.Goals as goal
 

@@ -1,6 +1,5 @@
-use Rattle.std.proofs.Common.{◌≡◌, ℕ, ◌+◌, ◌-◌, ◌≤◌, length, ◌∙◌, arith, length-drop, rules}
+use Rattle.std.proofs.Common.{◌≡◌, ℕ, ◌-◌, length, ◌∙◌, arith, length-drop, rules}
 use borrow.Rule.Slice.PartMut.{mid_len}
-use Rattle.drafts.specs.Dues.{pending}
 use Rattle.drafts.proofs.Dues.{put_before}
 use Rattle.drafts.proofs.due.Due.put_first.Goals as goal
 

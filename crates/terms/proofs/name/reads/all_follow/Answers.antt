@@ -1,4 +1,4 @@
-use Rattle.std.proofs.Common.{◌≡◌, sym, ◌∙◌}
+use Rattle.std.proofs.Common.{sym, ◌∙◌}
 use Rattle.terms.proofs.Names.{follow_here, follow_more, follow_all}
 use Rattle.terms.proofs.name.reads.all_follow.Goals as goal
 

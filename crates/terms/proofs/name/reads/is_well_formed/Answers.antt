@@ -1,4 +1,4 @@
-use Rattle.std.proofs.Common.{◌≡◌, ◌<◌, ◌≤◌, length, sym, rules}
+use Rattle.std.proofs.Common.{rules}
 use Rattle.terms.proofs.Names.{formed_is}
 use Rattle.terms.proofs.name.reads.is_well_formed.Goals as goal
 

@@ -1,4 +1,4 @@
-use Rattle.std.proofs.Common.{◌≡◌, ℕ, leb, List, [], ◌∷◌, length, Some, None, sym, ap, ◌∙◌}
+use Rattle.std.proofs.Common.{ℕ, leb, List, [], ◌∷◌, length, Some, sym, ap, ◌∙◌}
 use Rattle.std.proofs.lemmas.Bool.{cond-true, le-leb}
 use Rattle.terms.specs.Views.{declaring}
 use Rattle.terms.proofs.Copies.{copied_long, copied_front}

@@ -1,4 +1,4 @@
-use Rattle.std.proofs.Common.{◌≡◌, ℕ, ◌<◌, ◌≤◌, List, [], ◌∷◌, ◌++◌, length, Some, sym, refl, ap, ◌∙◌, arith, rules}
+use Rattle.std.proofs.Common.{ℕ, ◌<◌, List, length, Some, sym, refl, ap, ◌∙◌, arith}
 use Rattle.terms.specs.Signatures.{Signature, Change}
 use Rattle.terms.specs.Views.{bytes_of, view}
 use Rattle.terms.proofs.Letters.{zero_one}

@@ -1,4 +1,4 @@
-use Rattle.std.proofs.Common.{◌≡◌, ℕ, Some, None, Option, sym, ap, ◌∙◌}
+use Rattle.std.proofs.Common.{ℕ, Some, None, Option, sym, ap, ◌∙◌}
 use Rattle.std.proofs.lemmas.Option.{slice_get-get_or, slice_get_past}
 use Rattle.terms.specs.Options.{onward}
 use Rattle.terms.specs.Views.{view, given}

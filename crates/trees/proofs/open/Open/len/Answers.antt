@@ -1,4 +1,4 @@
-use Rattle.std.proofs.Common.{◌≡◌, sym}
+use Rattle.std.proofs.Common.{sym}
 use Rattle.trees.proofs.Opens.{length_open}
 use Rattle.trees.proofs.open.Open.len.Goals as goal
 

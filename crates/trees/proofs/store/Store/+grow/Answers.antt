@@ -1,13 +1,11 @@
-use Rattle.std.proofs.Common.{◌≡◌, ℕ, ◌+◌, ◌-◌, ◌<◌, ◌≤◌, Bool, true, false, ◌&&◌, List, length, Some, None, Option, sym, refl, ap, ◌∙◌, subst, arith, rules}
+use Rattle.std.proofs.Common.{◌≡◌, ℕ, ◌-◌, ◌<◌, ◌≤◌, Bool, ◌&&◌, length, Some, sym, refl, ap, ◌∙◌, subst, arith, rules}
 use Rattle.terms.specs.Terms.{symbol}
 use Rattle.terms.specs.Signatures.{Signature}
 use Rattle.terms.specs.Roots.{head_args}
-use Rattle.terms.specs.Views.{view}
 use Rattle.rewriting.specs.FixedTree.{first_shared}
 use Rattle.rewriting.specs.Growing.{sole_open, opened, grow}
 use Rattle.drafts.specs.Books.{book_of}
 use Rattle.drafts.specs.Stores.{seen}
-use Rattle.trees.specs.declared.shared.Shared.{Shared}
 use Rattle.trees.specs.Views.{steps_of}
 use Rattle.trees.specs.Opens.{open_of}
 use Rattle.trees.specs.Rows.{chosen}
@@ -17,7 +15,7 @@ use Rattle.trees.proofs.Drafted.{draft_short}
 use Rattle.trees.proofs.Told.{place_some, place_none, shared_none, grown_some, grown_none}
 use Rattle.trees.proofs.Growths.{GrownTo, grows_none, grown_skip, grown_more}
 use Rattle.trees.proofs.Stages.{fuel_left, none_added, rule_grown, none_grown, child_missing, branch_grown, children_added, child_added}
-use Rattle.trees.proofs.Branches.{few_arguments, Branching, branching, all_new, branch_begins, branch_leads, branch_covered, paid_all, is_new, new_short, new_open, new_child, new_room, new_cost, new_tree}
+use Rattle.trees.proofs.Branches.{few_arguments, branching, all_new, branch_begins, branch_leads, branch_covered, paid_all, is_new, new_short, new_open, new_child, new_room, new_cost, new_tree}
 use Rattle.trees.proofs.store.Store.+grow.Goals as goal
 use Rattle.trees.proofs.store.Store.+grow.Goals.{then-complete, else-complete, then-covered, else-covered}
 

@@ -1,4 +1,4 @@
-use Rattle.std.proofs.Common.{◌≡◌, ◌<◌, true, false, Option, sym, ap, ◌∙◌, arith}
+use Rattle.std.proofs.Common.{◌<◌, true, false, Option, sym, ap, ◌∙◌, arith}
 use Rattle.terms.specs.Views.{view}
 use Rattle.drafts.specs.Books.{book_of}
 use Rattle.drafts.specs.Stores.{seen, verdict}

@@ -1,9 +1,8 @@
-use Rattle.std.proofs.Common.{◌≡◌, ℕ, ◌<◌, ◌≤◌, List, length, IfOk, Some, None, Err, Option, Result, sym, refl, ap, ◌∙◌, subst, arith}
+use Rattle.std.proofs.Common.{◌≡◌, ℕ, List, length, IfOk, Err, Option, Result, sym, refl, ap, ◌∙◌, subst, arith}
 use Rattle.std.proofs.lemmas.Result.{err_from_is_err_and}
 use Rattle.terms.specs.Options.{mapped}
-use Rattle.terms.specs.Signatures.{Declaration, Signature}
+use Rattle.terms.specs.Signatures.{Signature}
 use Rattle.rewriting.specs.FixedTree.{or_else}
-use Rattle.drafts.specs.Drafts.{awaited}
 use Rattle.drafts.specs.Books.{book_of}
 use Rattle.drafts.specs.Stores.{seen}
 use Rattle.drafts.proofs.Verdicts.{refused, passed}
@@ -15,7 +14,7 @@ use Rattle.trees.specs.Checks.{fault_at, first_fault}
 use Rattle.trees.specs.Standing.{refusal, AllRooted}
 use Rattle.trees.proofs.Places.{nth_below}
 use Rattle.trees.proofs.Drafted.{draft_room}
-use Rattle.trees.proofs.Rooting.{UpTo, up_to_next, up_to_fault, first_none, function_stands}
+use Rattle.trees.proofs.Rooting.{up_to_next, up_to_fault, first_none, function_stands}
 use Rattle.trees.proofs.trees.Trees.of.Goals as goal
 
 pub loop-symbol-init : goal.loop-symbol-init

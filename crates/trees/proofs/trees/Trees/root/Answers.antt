@@ -1,4 +1,4 @@
-use Rattle.std.proofs.Common.{◌≡◌, ℕ, None, Option, sym, ap, arith}
+use Rattle.std.proofs.Common.{ℕ, None, Option, sym, ap, arith}
 use Rattle.std.proofs.lemmas.Option.{slice_get_past, slice_get-get_or}
 use Rattle.terms.specs.Options.{onward}
 use Rattle.trees.proofs.trees.Trees.root.Goals as goal
