@@ -3,13 +3,11 @@ use Rattle.std.proofs.Common.{◌≡◌, ℕ, zero, suc, ◌+◌, ◌<◌, ◌�
 use Rattle.std.specs.List.{slice_get}
 use Rattle.std.proofs.lemmas.List.{drop_all}
 use Rattle.std.proofs.lemmas.Bool.{cases_lt, both_ways}
-use Rattle.terms.specs.declared.signature.Role.TheVariants.{Function, Operation}
 use Rattle.terms.specs.Terms.{own}
 use Rattle.terms.specs.Options.{mapped}
-use Rattle.terms.specs.Signatures.{Declaration, Signature}
-use Rattle.terms.specs.Roots.{is_constructor, fn_of, call, Stands}
+use Rattle.terms.specs.Roots.{call, Stands}
 use Rattle.terms.proofs.Letters.{zero_one}
-use Rattle.rewriting.specs.Rules.{Book, Proper}
+use Rattle.rewriting.specs.Rules.{Book}
 use Rattle.rewriting.specs.Trees.{Node, TreeFor, CompleteFor}
 use Rattle.rewriting.specs.FixedTree.{or_else, fixed_tree}
 use Rattle.rewriting.specs.Completeness.{is_complete}

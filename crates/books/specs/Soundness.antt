@@ -12,7 +12,6 @@ use Rattle.rewriting.specs.Trees.{Node as Tree, at_rule, branch, Nodes as Childr
 use Rattle.rewriting.specs.FixedTree.{same_head, same_fn, fixed_tree}
 use Rattle.drafts.specs.Drafts.{Draft, awaited}
 use Rattle.drafts.specs.Books.{book_of}
-use Rattle.trees.specs.declared.fault.CheckFault.{CheckFault}
 use Rattle.trees.specs.declared.node.Node.{Node}
 use Rattle.trees.specs.declared.node.Kind.{Kind}
 use Rattle.trees.specs.declared.node.Kind.TheVariants.{Rule as RuleNode, Branch}

@@ -1,12 +1,9 @@
-use Rattle.std.proofs.Common.{◌≡◌, Some, None, Ok, Err, Option, sym, refl, ap, ◌∙◌, subst}
+use Rattle.std.proofs.Common.{Err, Option, sym, refl, ap, ◌∙◌, subst}
 use Rattle.std.proofs.lemmas.Result.{err_from_is_err_and}
 use Rattle.terms.proofs.Letters.{zero_one}
-use Rattle.drafts.specs.Drafts.{Draft}
 use Rattle.drafts.specs.Stores.{seen}
 use Rattle.trees.specs.declared.fault.CheckFault.{CheckFault}
-use Rattle.trees.specs.Checks.{check_fault}
 use Rattle.trees.specs.Standing.{refusal}
-use Rattle.books.specs.Soundness.{is_none}
 use Rattle.books.specs.Holding.{held, after_check}
 use Rattle.books.specs.Statements.{ExactCheck}
 use Rattle.books.proofs.Exact.{exact_check, accepted_complete}
