@@ -85,6 +85,6 @@ abbrev pub no_operation : List Declaration → Bool
 no_operation [] = true
 no_operation (d ∷ ds) = not (same_role d.role Operation) && no_operation ds
 
--- the three operations stand first, and no other symbol is one
+-- past the first three symbols none is an operation
 abbrev pub three_operations : Signature → Bool
 three_operations S = no_operation (drop 3 S.symbols)

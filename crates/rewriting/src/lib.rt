@@ -1,4 +1,4 @@
-// Term rewriting along definitional trees. There is no engine here: each function stands for the theorem that its contract says, and answers 0.
+// Term rewriting along definitional trees. There is no engine here: each function stands for the theorem that its contract says, and answers 0 or nothing.
 #![tactic(auto)]
 
 ghost use Rattle.rewriting.specs.Promises.{MovesAreSteps, Normalises, OneValue, StepsKeepSorts, Progress, FixedTreeExact, BoundsSuffice, GrowsFixedTree, TellsComplete};
