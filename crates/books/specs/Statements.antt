@@ -31,7 +31,7 @@ pub record ExactCheck (D : Draft) (o : Option CheckFault) : Type 0 where
   pub no_tree : (f : ℕ) → (o ≡ Some (NoTree f)) ↔ ((awaited D ≡ None) × FirstAtFault (book_of D) f × ((n : Node) → TreeFor (book_of D) f n → ⊥))
   pub incomplete : (f : ℕ) → (o ≡ Some (Incomplete f)) ↔ ((awaited D ≡ None) × FirstAtFault (book_of D) f × ((n : Node) × TreeFor (book_of D) f n))
 
--- every rule set: sort-correct and left-linear, no rule is missing, and the nodes are the fixed trees of its functions
+-- every rule set: sort-correct and left-linear, no rule is missing, and at the root of each function stands its fixed tree
 pub record SoundSet (D : Draft) (t : Trees) : Type 0 where
   pub contents : SoundContents D.signature
   pub counted : CountedContents D
