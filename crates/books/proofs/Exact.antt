@@ -1,15 +1,15 @@
 -- Check is exact.
-use Rattle.std.proofs.Common.{◌≡◌, ℕ, zero, suc, ◌+◌, ◌<◌, ◌≤◌, Bool, true, false, cond, eqb, ◌⊎◌, ◌↔◌, length, drop, Some, None, Option, sym, refl, ap, subst, inl, inr, arith}
+use Rattle.std.proofs.Common.{◌≡◌, ℕ, zero, suc, ◌+◌, ◌<◌, ◌≤◌, Bool, true, false, cond, eqb, ◌⊎◌, ◌↔◌, length, drop, Some, None, Option, sym, refl, ap, subst, inl, inr, arith, option_map}
 use Rattle.std.specs.List.{slice_get}
 use Rattle.std.proofs.lemmas.List.{drop_all}
 use Rattle.std.proofs.lemmas.Bool.{cases_lt, both_ways}
+use Rattle.std.specs.Option.{option_or}
 use Rattle.terms.specs.Terms.{own}
-use Rattle.terms.specs.Options.{mapped}
 use Rattle.terms.specs.Roots.{call, Stands}
 use Rattle.terms.proofs.Letters.{zero_one}
 use Rattle.rewriting.specs.Rules.{Book}
 use Rattle.rewriting.specs.Trees.{Node, TreeFor, CompleteFor}
-use Rattle.rewriting.specs.FixedTree.{or_else, fixed_tree}
+use Rattle.rewriting.specs.FixedTree.{fixed_tree}
 use Rattle.rewriting.specs.Completeness.{is_complete}
 use Rattle.rewriting.specs.Promises.{HasCompleteTrees, Exact}
 use Rattle.rewriting.proofs.Lists.{kept_mem}
@@ -95,7 +95,7 @@ first_means B says (suc n) s l h =
     rest : Option CheckFault
     rest = first_fault B (suc s) (drop (suc s) B.signature.symbols)
 
-    go : (o : Option CheckFault) → Says B s o → (Says B s None → Means None B rest) → Means None B (or_else o rest)
+    go : (o : Option CheckFault) → Says B s o → (Says B s None → Means None B rest) → Means None B (option_or o rest)
     go None t more = more t
     go (Some e) t more = t h
 
@@ -133,9 +133,9 @@ module _ (d : Draft) (whole : awaited (seen d) ≡ None) where
       go (Some t) e = test t e (is_complete B.signature t) refl
 
   symbol_says : (s : ℕ) → Says B s (fault_at B s)
-  symbol_says s = go (function_role (mapped (λ y. y.role) (slice_get B.signature.symbols s))) refl
+  symbol_says s = go (function_role (option_map (λ y. y.role) (slice_get B.signature.symbols s))) refl
     where
-      go : (b : Bool) → function_role (mapped (λ y. y.role) (slice_get B.signature.symbols s)) ≡ b → Says B s (fault_at B s)
+      go : (b : Bool) → function_role (option_map (λ y. y.role) (slice_get B.signature.symbols s)) ≡ b → Says B s (fault_at B s)
       go true e = let h = a_function B.signature s e in subst (Says B s) (sym (function_fault B s h)) (function_says s h)
       go false e = subst (Says B s) (sym (no_fault B s e)) (λ h. absurd (no_function B.signature s e (function_stands d s h)))
 
@@ -146,7 +146,7 @@ module _ (d : Draft) (whole : awaited (seen d) ≡ None) where
 check_means : (d : Draft) → Means (awaited (seen d)) (book_of (seen d)) (check_fault (seen d))
 check_means d = go (awaited (seen d)) refl
   where
-    go : (a : Option ℕ) → awaited (seen d) ≡ a → Means a (book_of (seen d)) (or_else (mapped RulesMissing a) (first_fault (book_of (seen d)) 0 (seen d).signature.symbols))
+    go : (a : Option ℕ) → awaited (seen d) ≡ a → Means a (book_of (seen d)) (option_or (option_map RulesMissing a) (first_fault (book_of (seen d)) 0 (seen d).signature.symbols))
     go None e = faults_mean d e
     go (Some f) e = refl
 

@@ -3,18 +3,19 @@ use Rattle.std.proofs.Common.{◌≡◌, ℕ, zero, suc, ◌+◌, ◌<◌, ◌�
 use Rattle.std.specs.Str.{bytes_eq}
 use Rattle.std.proofs.lemmas.List.{length-append, map-append}
 use Rattle.std.proofs.lemmas.Bool.{and_parts, and_from, or_parts, or_from, not-true, not-false, both_ways, cases_Bool, eqb-true, eqb-false, eq-eqb, ne_eqb, lt-ltb, leb-true, leb-false, le-leb, ltb-false}
+use Rattle.std.specs.Option.{option_or}
 use Rattle.terms.specs.declared.signature.Role.TheVariants.{Constructor, Function, Operation}
 use Rattle.terms.specs.Names.{well_formed, find_name}
 use Rattle.terms.specs.Roots.{is_constructor}
 use Rattle.terms.specs.Signatures.{Declaration, Signature, built_in}
 use Rattle.terms.proofs.Letters.{zero_one}
 use Rattle.drafts.specs.Drafts.{Sides, Draft, in_turn, total, most_rules}
-use Rattle.drafts.specs.Contents.{or_else, names, is_found, is_taken, is_keyword, some_rule, all_below, name_fault, sorts_fault, sorts_full, sort_fault, symbol_fault, constructor_fault, function_fault, with_sort, with_symbol}
+use Rattle.drafts.specs.Contents.{names, is_found, is_taken, is_keyword, some_rule, all_below, name_fault, sorts_fault, sorts_full, sort_fault, symbol_fault, constructor_fault, function_fault, with_sort, with_symbol}
 use Rattle.drafts.specs.Soundness.{distinct, sorts_below, no_number_made, begins_with, same_role, same_declaration, no_operation, promise_fits, promises_fit, stand_in_turn, contents_sound, is_sound}
-use Rattle.drafts.proofs.Lists.{found_append, below_wider, total_push}
+use Rattle.drafts.proofs.Lists.{found_cons, found_append, below_wider, total_push}
 
 -- no refusal, in parts
-pub none_either : {F : Type 0} (o p : Option F) → or_else o p ≡ None → (o ≡ None) × (p ≡ None)
+pub none_either : {F : Type 0} (o p : Option F) → option_or o p ≡ None → (o ≡ None) × (p ≡ None)
 none_either (Some f) p h = absurd (zero_one (cc))
 none_either None p h = (refl, h)
 
@@ -46,14 +47,6 @@ same_equal (x ∷ m) [] h = absurd (both_ways false refl h)
 same_equal (x ∷ m) (y ∷ n) h =
     let p = and_parts (eqb x y) (bytes_eq m n) h in
     ap (λ z. z ∷ m) (eqb-true x y p.0) ∙ ap (λ (w : List ℕ). y ∷ w) (same_equal m n p.1)
-
--- a name is found in a list with one more in front
-pub found_cons : (m : List ℕ) (ms : List (List ℕ)) (n : List ℕ) → is_found (find_name (m ∷ ms) n) ≡ (bytes_eq m n || is_found (find_name ms n))
-found_cons m ms n = found_append (m ∷ []) ms n ∙ ap (λ b. b || is_found (find_name ms n)) (only (bytes_eq m n))
-  where
-    only : (b : Bool) → is_found (cond b (Some 0) None) ≡ b
-    only true = refl
-    only false = refl
 
 -- a new name anywhere among different ones
 distinct_insert : (us vs : List (List ℕ)) (n : List ℕ) → distinct (us ++ vs) ≡ true → is_found (find_name (us ++ vs) n) ≡ false → distinct (us ++ (n ∷ vs)) ≡ true

@@ -3,8 +3,6 @@ pub mod Verdicts
 pub mod Stores
 pub mod Kept
 pub mod Declared
-pub mod Firsts
-pub mod Dues
 pub mod LeftSorts
 pub mod Turns
 pub mod Pools

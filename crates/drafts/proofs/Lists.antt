@@ -1,36 +1,31 @@
 -- Loops over lists of numbers and names.
-use Rattle.std.proofs.Common.{◌≡◌, ℕ, zero, suc, ◌+◌, ◌<◌, ◌≤◌, Bool, true, false, cond, ◌&&◌, ◌||◌, ltb, List, [], ◌∷◌, ◌++◌, length, get_or, take, drop, set, Some, None, Option, sym, refl, ap, ◌∙◌, arith}
-use Rattle.std.proofs.lemmas.List.{at_drop_more, at_drop_all, take_more, take_more_set}
+use Rattle.std.proofs.Common.{◌≡◌, ℕ, zero, suc, ◌+◌, ◌<◌, ◌≤◌, Bool, true, false, cond, ◌||◌, ltb, List, [], ◌∷◌, ◌++◌, length, get_or, Some, None, Option, sym, refl, ap, ◌∙◌, arith}
+use Rattle.std.proofs.Math.Bool.{or_assoc}
 use Rattle.std.proofs.lemmas.Bool.{and_parts, and_from, ltb-true, lt-ltb}
+use Rattle.std.proofs.lemmas.List.Recursion.{is_sum_by}
+use Rattle.std.specs.List.{sum_by, count_by}
 use Rattle.std.specs.Str.{bytes_eq}
 use Rattle.terms.specs.Names.{find_name}
 use Rattle.terms.specs.Options.{more}
+use Rattle.terms.proofs.Names.{position_cons}
 use Rattle.drafts.specs.Drafts.{total, functions_in}
 use Rattle.drafts.specs.Contents.{is_found, all_below}
 
--- the steps of the loop that looks for a number not below m
-module _ (m : ℕ) where
-  pub below_more : (ks : List ℕ) (i : ℕ) → i < length ks → ltb (get_or ks i 0) m ≡ true → all_below m (drop i ks) ≡ all_below m (drop (i + 1) ks)
-  below_more ks i h e = at_drop_more (all_below m) ks i 0 h ∙ ap (λ b. b && all_below m (drop (i + 1) ks)) e
+-- a name is found in a list with one more in front, and in two lists one after the other
+pub found_cons : (m : List ℕ) (ms : List (List ℕ)) (n : List ℕ) → is_found (find_name (m ∷ ms) n) ≡ (bytes_eq m n || is_found (find_name ms n))
+found_cons m ms n = ap is_found (position_cons (λ (k : List ℕ). bytes_eq k n) m ms) ∙ go (bytes_eq m n) (find_name ms n)
+  where
+    go : (b : Bool) (o : Option ℕ) → is_found (cond b (Some 0) (more o)) ≡ (b || is_found o)
+    go true o = refl
+    go false None = refl
+    go false (Some i) = refl
 
-  pub not_below : (ks : List ℕ) (i : ℕ) → i < length ks → ltb (get_or ks i 0) m ≡ false → all_below m (drop i ks) ≡ false
-  not_below ks i h e = at_drop_more (all_below m) ks i 0 h ∙ ap (λ b. b && all_below m (drop (i + 1) ks)) e
-
-  pub below_all : (ks : List ℕ) (i : ℕ) → length ks ≤ i → all_below m (drop i ks) ≡ true
-  below_all ks i h = at_drop_all (all_below m) ks i h
-
--- a name is found in two lists one after the other
 pub found_append : (us bs : List (List ℕ)) (n : List ℕ) → is_found (find_name (us ++ bs) n) ≡ (is_found (find_name us n) || is_found (find_name bs n))
 found_append [] bs n = refl
-found_append (a ∷ us) bs n = go (bytes_eq a n) (find_name (us ++ bs) n) (find_name us n) (found_append us bs n)
-  where
-    found_more : (o : Option ℕ) → is_found (more o) ≡ is_found o
-    found_more None = refl
-    found_more (Some i) = refl
-
-    go : (b : Bool) (o p : Option ℕ) → is_found o ≡ (is_found p || is_found (find_name bs n)) → is_found (cond b (Some 0) (more o)) ≡ (is_found (cond b (Some 0) (more p)) || is_found (find_name bs n))
-    go true o p h = refl
-    go false o p h = found_more o ∙ h ∙ ap (λ c. c || is_found (find_name bs n)) (sym (found_more p))
+found_append (a ∷ us) bs n =
+    found_cons a (us ++ bs) n ∙ ap (λ c. bytes_eq a n || c) (found_append us bs n)
+    ∙ sym (or_assoc (bytes_eq a n) (is_found (find_name us n)) (is_found (find_name bs n)))
+    ∙ ap (λ c. c || is_found (find_name bs n)) (sym (found_cons a us n))
 
 pub below_at : (m : ℕ) (ks : List ℕ) (i : ℕ) → all_below m ks ≡ true → i < length ks → get_or ks i 0 < m
 below_at m [] i h l = absurd (omega arith)
@@ -49,21 +44,9 @@ pub total_push : (ps : List ℕ) (p : ℕ) → total (ps ++ (p ∷ [])) ≡ tota
 total_push [] p = omega arith
 total_push (q ∷ ps) p = let h = total_push ps p in omega arith
 
-pub total_more : (ps : List ℕ) (i : ℕ) → i < length ps → total (take (i + 1) ps) ≡ total (take i ps) + get_or ps i 0
-total_more ps i h = ap total (take_more ps i 0 h) ∙ total_push (take i ps) (get_or ps i 0)
+-- sums and counts by the library's words
+pub total_sum : (ps : List ℕ) → total ps ≡ sum_by (λ p. p) ps
+total_sum = is_sum_by total (λ p. p) refl (λ p ps. refl)
 
--- one more number of another list, copied
-pub copied_more : (now old : List ℕ) (i : ℕ) → take i now ≡ take i old → i < length old → i < length now → take (i + 1) (set now i (get_or old i 0)) ≡ take (i + 1) old
-copied_more now old i e h l = take_more_set now i (get_or old i 0) l ∙ ap (λ (w : List ℕ). w ++ (get_or old i 0 ∷ [])) e ∙ sym (take_more old i 0 h)
-
--- functions counted one more
-functions_push : (ps : List ℕ) (p : ℕ) → functions_in (ps ++ (p ∷ [])) ≡ functions_in ps + cond (ltb 0 p) 1 0
-functions_push [] p = omega arith
-functions_push (q ∷ ps) p = let h = functions_push ps p in omega arith
-
-pub functions_more : (ps : List ℕ) (i : ℕ) → i < length ps → functions_in (take (i + 1) ps) ≡ functions_in (take i ps) + cond (ltb 0 (get_or ps i 0)) 1 0
-functions_more ps i h = ap functions_in (take_more ps i 0 h) ∙ functions_push (take i ps) (get_or ps i 0)
-
-pub at_most_one : (b : Bool) → cond b 1 0 ≤ 1
-at_most_one true = omega arith
-at_most_one false = omega arith
+pub functions_counted : (ps : List ℕ) → functions_in ps ≡ count_by (λ p. ltb 0 p) ps
+functions_counted = is_sum_by functions_in (λ p. cond (ltb 0 p) 1 0) refl (λ p ps. refl)

@@ -1,8 +1,6 @@
 -- Spans in the pool of letters.
-use Rattle.std.proofs.Common.{◌≡◌, ℕ, ◌+◌, ◌-◌, ◌≤◌, true, eqb, List, [], ◌∷◌, ◌++◌, map, length, take, drop, sym, refl, ap, ◌∙◌, ap₂, arith}
-use borrow.Rule.Slice.PartMut.{put_mid, mid_len, same_len_mid}
-use Rattle.std.proofs.lemmas.List.{drop-take, take-take, drop_at, length-take, length-take-le, length-drop}
-use Rattle.std.proofs.lemmas.Slice.{take-put_mid_below, take-put_mid}
+use Rattle.std.proofs.Common.{◌≡◌, ℕ, ◌+◌, ◌≤◌, true, eqb, List, [], ◌∷◌, ◌++◌, map, length, take, drop, sym, refl, ap, ◌∙◌, ap₂, arith}
+use Rattle.std.proofs.lemmas.List.{drop-take, take-take, drop_at, take_all, take-append-le, append_assoc, length-append, length-take-le, length-drop}
 use Rattle.std.proofs.lemmas.Bool.{and_parts, and_from, eqb-true, eq-eqb}
 use Rattle.drafts.specs.declared.span.Span.{Span}
 use Rattle.drafts.specs.Drafts.{Sides, sides, letters_in}
@@ -38,16 +36,6 @@ row_letters ls n m (s ∷ ss) h l =
     let b = length_part ls s.right (s.start + s.left) (omega arith) in
     omega arith
 
--- however long the pool is, they are no more than its count
-pub row_room : (ls : List ℕ) (n m : ℕ) (ss : List Span) → in_a_row n ss m ≡ true → n + letters_in (map (sides_of ls) ss) ≤ m
-row_room ls n m [] h = let e = eqb-true n m h in omega arith
-row_room ls n m (s ∷ ss) h =
-    let p = and_parts (eqb s.start n) (in_a_row (n + (s.left + s.right)) ss m) h in
-    let i = row_room ls (n + (s.left + s.right)) m ss p.1 in
-    let a = length-take s.left (drop s.start ls) in
-    let b = length-take s.right (drop (s.start + s.left) ls) in
-    omega arith
-
 -- parts below a place up to which two lists are the same
 part_same : (xs ys : List ℕ) (a b n : ℕ) → take n xs ≡ take n ys → b + a ≤ n → take a (drop b xs) ≡ take a (drop b ys)
 part_same xs ys a b n e h =
@@ -65,41 +53,16 @@ rules_same xs ys n m k (s ∷ ss) e h =
     (ap₂ sides (part_same xs ys s.left s.start m e (omega arith)) (part_same xs ys s.right (s.start + s.left) m e (omega arith)))
     (rules_same xs ys (n + (s.left + s.right)) m k ss e p.1)
 
--- two words written one after the other
-module _ (ls x y l r : List ℕ) (n : ℕ) (room : n + length l + length r ≤ length ls) (ex : x ≡ l) (ey : y ≡ r) where
-  abbrev first_write : List ℕ
-  first_write = put_mid n (n + length l - n) ls x
+-- two words at the end of a pool
+module _ (ls l r : List ℕ) where
+  pub laid_below : take (length ls) (ls ++ (l ++ r)) ≡ take (length ls) ls
+  laid_below = take-append-le (length ls) ls (l ++ r) (omega arith)
 
-  abbrev both_written : List ℕ
-  both_written = put_mid (n + length l) (n + length l + length r - (n + length l)) first_write y
+  pub laid_left : take (length l) (drop (length ls) (ls ++ (l ++ r))) ≡ l
+  laid_left = ap (take (length l)) (drop_at ls (l ++ r) (length ls) refl) ∙ take-append-le (length l) l r (omega arith) ∙ take_all (length l) l (omega arith)
 
-  first_long : length first_write ≡ length ls
-  first_long =
-      let g : n + length l - n ≡ length l = omega arith in
-      let z = ap length ex in
-      same_len_mid n (n + length l - n) ls x (let m = mid_len n (n + length l) ls (omega arith) in omega arith)
-
-  pub written_below : take n both_written ≡ take n ls
-  written_below =
-      let f = first_long in
-      take-put_mid_below (n + length l) (n + length l + length r - (n + length l)) first_write y n (omega arith) (omega arith)
-      ∙ take-put_mid_below n (n + length l - n) ls x n (omega arith) (omega arith)
-
-  pub written_left : take (length l) (drop n both_written) ≡ l
-  written_left =
-      let f = first_long in
-      let z = ap length ex in
-      sym (drop-take n (length l) both_written)
-      ∙ ap (drop n) (take-put_mid_below (n + length l) (n + length l + length r - (n + length l)) first_write y (n + length l) (omega arith) (omega arith)
-      ∙ take-put_mid n (n + length l - n) ls x (n + length l) (omega arith) (omega arith))
-      ∙ drop_at (take n ls) x n (length-take-le n ls (omega arith))
-      ∙ ex
-
-  pub written_right : take (length r) (drop (n + length l) both_written) ≡ r
-  written_right =
-      let f = first_long in
-      let z = ap length ey in
-      sym (drop-take (n + length l) (length r) both_written)
-      ∙ ap (drop (n + length l)) (take-put_mid (n + length l) (n + length l + length r - (n + length l)) first_write y (n + length l + length r) (omega arith) (omega arith))
-      ∙ drop_at (take (n + length l) first_write) y (n + length l) (length-take-le (n + length l) first_write (omega arith))
-      ∙ ey
+  pub laid_right : take (length r) (drop (length ls + length l) (ls ++ (l ++ r))) ≡ r
+  laid_right =
+      ap (λ (w : List ℕ). take (length r) (drop (length ls + length l) w)) (sym (append_assoc ls l r))
+      ∙ ap (take (length r)) (drop_at (ls ++ l) r (length ls + length l) (length-append ls l))
+      ∙ take_all (length r) r (omega arith)

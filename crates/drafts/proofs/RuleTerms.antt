@@ -1,15 +1,16 @@
 -- The two words of a rule without fault, as terms.
-use Rattle.std.proofs.Common.{◌≡◌, ℕ, zero, suc, ◌+◌, ◌^◌, ◌<◌, Bool, true, false, cond, not, ◌&&◌, ◌||◌, eqb, ◌⊎◌, List, [], ◌∷◌, ◌++◌, map, length, set, Some, None, Ok, Err, Option, Result, sym, refl, ap, ◌∙◌, subst, ap₂, inl, inr, append_assoc, append-nil, arith}
+use Rattle.std.proofs.Common.{◌≡◌, ℕ, zero, suc, ◌+◌, ◌^◌, ◌<◌, Bool, true, false, cond, ◌&&◌, ◌||◌, eqb, ◌⊎◌, List, [], ◌∷◌, ◌++◌, map, length, set, Some, None, Ok, Err, Option, Result, sym, refl, ap, ◌∙◌, subst, ap₂, inl, inr, append_assoc, append-nil, arith, option_map}
 use mathlib.Core.List.{Memᴰ}
 use Rattle.std.specs.List.{slice_get}
 use Rattle.std.proofs.lemmas.List.{length-set, map-append}
-use Rattle.std.proofs.lemmas.Bool.{and_from, or_parts, or_from, eqb-true, eqb-false, eq-eqb, ne_eqb, both_ways, cond-true}
+use Rattle.std.proofs.Math.Bool.{or_assoc}
+use Rattle.std.proofs.lemmas.Bool.{and_from, or_parts, or_from, eqb-true, eqb-false, eq-eqb, ne_eqb, both_ways, cond-false}
 use Rattle.terms.specs.declared.letter.Letter.{Letter}
 use Rattle.terms.specs.declared.letter.Letter.TheVariants.{Cell, Symbol, Variable}
 use Rattle.terms.specs.declared.signature.Role.{Role}
 use Rattle.terms.specs.declared.signature.Role.TheVariants.{Constructor, Function, Operation}
 use Rattle.terms.specs.Terms.{Head, cell, symbol, Fn, Term, var, con, fun, Terms, nil, ◌▸◌, count}
-use Rattle.terms.specs.Options.{onward, mapped, passes, more}
+use Rattle.terms.specs.Options.{onward, passes, more}
 use Rattle.terms.specs.Letters.{letter_of}
 use Rattle.terms.specs.Signatures.{Declaration, Signature}
 use Rattle.terms.specs.Roots.{Root, variable, head, call, letter, number, is_constructor, Stands, letter_role, root_args, args_of}
@@ -22,6 +23,7 @@ use Rattle.words.specs.Words.{word, words, Fits, AllFit}
 use Rattle.words.specs.Faults.{suits, due_after}
 use Rattle.rewriting.specs.Substitutions.{Occurrence, moved, in_first, in_later, occurrences, all_occurrences, variables}
 use Rattle.rewriting.specs.Rules.{Different}
+use Rattle.terms.proofs.Names.{position_cons}
 use Rattle.drafts.specs.Rules.{is_cell, cell_letter, is_variable, variable_letter, calls, is_function, stands_in, first_that, is_again, first_again, takes_sort, noted, none_known, one_on, left_sorts}
 use Rattle.drafts.proofs.LeftSorts.{no_letter}
 use Rattle.drafts.specs.Statements.{Pattern, Patterns}
@@ -35,19 +37,15 @@ none_cons : (b : Bool) (o : Option ℕ) → cond b (Some 0) (more o) ≡ None �
 none_cons true o h = absurd (zero_one (cc))
 none_cons false o h = (refl, more_none o h)
 
-none_not : (b : Bool) (o : Option ℕ) → cond (not b) (more o) (Some 0) ≡ None → (b ≡ false) × (o ≡ None)
-none_not true o h = absurd (zero_one (cc))
-none_not false o h = (refl, more_none o h)
-
 pub that_cons : (p : ℕ → Bool) (x : ℕ) (w : List ℕ) → first_that p (x ∷ w) ≡ None → (p x ≡ false) × (first_that p w ≡ None)
-that_cons p x w h = none_not (p x) (first_that p w) h
+that_cons p x w h = none_cons (p x) (first_that p w) (sym (position_cons p x w) ∙ h)
 
 that_append : (p : ℕ → Bool) (u w : List ℕ) → first_that p (u ++ w) ≡ None → (first_that p u ≡ None) × (first_that p w ≡ None)
 that_append p [] w h = (refl, h)
 that_append p (x ∷ u) w h =
     let a = that_cons p x (u ++ w) h in
     let b = that_append p u w a.1 in
-    (cond-true (not (p x)) _ _ (ap not a.0) ∙ ap more b.0, b.1)
+    (position_cons p x u ∙ cond-false (p x) _ _ a.0 ∙ ap more b.0, b.1)
 
 again_cons : (u : List ℕ) (x : ℕ) (w : List ℕ) → first_again u (x ∷ w) ≡ None → (is_again u x ≡ false) × (first_again (u ++ (x ∷ [])) w ≡ None)
 again_cons u x w h = none_cons (is_again u x) (first_again (u ++ (x ∷ [])) w) h
@@ -55,11 +53,7 @@ again_cons u x w h = none_cons (is_again u x) (first_again (u ++ (x ∷ [])) w) 
 -- where a letter stands
 stands_append : (x : ℕ) (u w : List ℕ) → stands_in x (u ++ w) ≡ (stands_in x u || stands_in x w)
 stands_append x [] w = refl
-stands_append x (y ∷ u) w = ap (λ b. eqb x y || b) (stands_append x u w) ∙ or_assoc (eqb x y) (stands_in x u) (stands_in x w)
-  where
-    or_assoc : (a b c : Bool) → (a || (b || c)) ≡ ((a || b) || c)
-    or_assoc true b c = refl
-    or_assoc false b c = refl
+stands_append x (y ∷ u) w = ap (λ b. eqb x y || b) (stands_append x u w) ∙ sym (or_assoc (eqb x y) (stands_in x u) (stands_in x w))
 
 pub or_left : (a b : Bool) → a ≡ true → (a || b) ≡ true
 or_left true b h = refl
@@ -97,7 +91,7 @@ module _ (S : Signature) where
   fun_is : (f : Fn) → Stands S (call f) → is_function S (number (call f)) ≡ true
   fun_is f h =
       ap (λ (o : Option Letter). calls (onward o (letter_role S))) (letter_is (call f) h)
-      ∙ ap (λ (o : Option Declaration). calls (mapped (λ (d : Declaration). d.role) o)) h.0.1
+      ∙ ap (λ (o : Option Declaration). calls (option_map (λ (d : Declaration). d.role) o)) h.0.1
       ∙ go h.0.0.role h.0.2
     where
       go : (o : Role) → is_constructor o ≡ false → calls (Some o) ≡ true
@@ -280,12 +274,6 @@ nth_set_other (x ∷ vs) zero zero o h = absurd (h refl)
 nth_set_other (x ∷ vs) zero (suc v) o h = refl
 nth_set_other (x ∷ vs) (suc y) zero o h = refl
 nth_set_other (x ∷ vs) (suc y) (suc v) o h = nth_set_other vs y v o (λ e. h (ap suc e))
-
-noted_long : (o : Option Letter) (k : ℕ) (vs : List (Option ℕ)) → length (noted o k vs) ≡ length vs
-noted_long None k vs = refl
-noted_long (Some (Cell n)) k vs = refl
-noted_long (Some (Symbol s)) k vs = refl
-noted_long (Some (Variable v)) k vs = length-set vs v (Some k)
 
 noted_other : (x v k : ℕ) (vs : List (Option ℕ)) → (letter_for v ≡ x → ⊥) → slice_get (noted (letter_of x) k vs) v ≡ slice_get vs v
 noted_other x v k vs h = go (letter_of x) refl

@@ -1,5 +1,5 @@
 -- Every draft is sound.
-use Rattle.std.proofs.Common.{◌≡◌, ℕ, zero, suc, ◌<◌, ◌≤◌, Bool, true, false, not, ◌||◌, eqb, ltb, List, [], ◌∷◌, ◌++◌, map, length, take, drop, Some, sym, refl, ap, ◌∙◌, subst, ap₂, arith}
+use Rattle.std.proofs.Common.{◌≡◌, ℕ, zero, suc, ◌<◌, ◌≤◌, Bool, true, false, not, ◌||◌, eqb, ltb, List, [], ◌∷◌, ◌++◌, map, length, drop, Some, sym, refl, ap, ◌∙◌, subst, ap₂, arith}
 use mathlib.Core.List.{Memᴰ}
 use Rattle.std.specs.List.{slice_get}
 use Rattle.std.specs.Str.{bytes_eq}
@@ -15,7 +15,8 @@ use Rattle.terms.specs.Roots.{is_constructor}
 use Rattle.terms.specs.Sorting.{sort_in}
 use Rattle.terms.specs.Views.{bytes_of, declaration, view}
 use Rattle.terms.proofs.Letters.{zero_one}
-use Rattle.terms.proofs.Tables.{length_symbols}
+use Rattle.terms.proofs.Tables.{symbols_fit, items_fit}
+use Rattle.terms.specs.Rows.{items}
 use Rattle.rewriting.specs.Rules.{Different}
 use Rattle.drafts.specs.declared.draft.Draft.{Draft as Store}
 use Rattle.drafts.specs.Drafts.{in_turn}
@@ -24,10 +25,10 @@ use Rattle.drafts.specs.Soundness.{distinct, sorts_below, no_number_made, same_r
 use Rattle.drafts.specs.Stores.{seen}
 use Rattle.drafts.specs.Statements.{SoundContents, SoundRules}
 use Rattle.drafts.specs.Books.{book_of, CountedContents, BookRules}
-use Rattle.drafts.proofs.Kept.{found_cons, SoundParts, parts_of}
+use Rattle.drafts.proofs.Kept.{SoundParts, parts_of}
+use Rattle.drafts.proofs.Lists.{found_cons}
 use Rattle.drafts.proofs.RuleTerms.{or_left, or_right}
-use Rattle.drafts.proofs.Stores.{length_rules}
-use Rattle.drafts.proofs.Pools.{row_room}
+use Rattle.drafts.proofs.Ruled.{letters_counted, rules_few}
 use Rattle.drafts.proofs.SoundRules.{first_same, role_promises, function_at, find_rules}
 
 -- names
@@ -48,8 +49,8 @@ name_of_entry (e ∷ es) n (Memᴰ.tail m) = name_of_entry es n m
 
 pub all_formed : (g : Table) (n : List ℕ) → Memᴰ n (names (view g)) → well_formed n ≡ true
 all_formed g = mem_both (λ n. well_formed n ≡ true) (view g).sorts (map (λ (d : Declaration). d.name) (view g).symbols)
-    (mem_map bytes_of (λ n. well_formed n ≡ true) (take g.sort_count g.sorts) (λ (x : Name). x.formed))
-    (name_of_entry (take g.symbol_count g.symbols))
+    (mem_map bytes_of (λ n. well_formed n ≡ true) (items g.sorts) (λ (x : Name). x.formed))
+    (name_of_entry (items g.symbols))
 
 same_self : (n : List ℕ) → bytes_eq n n ≡ true
 same_self [] = refl
@@ -120,7 +121,7 @@ promise_at (y ∷ ds) (q ∷ ps) h zero d p e g =
 promise_at (y ∷ ds) (q ∷ ps) h (suc s) d p e g = promise_at ds ps (and_parts (promise_fits y.role q) (promises_fit ds ps) h).1 s d p e g
 
 few_symbols : (a : Store) → length (seen a).signature.symbols ≤ 96
-few_symbols a = let l = length_symbols a.signature in let f = a.signature.symbols_fit in omega arith
+few_symbols a = symbols_fit a.signature
 
 pub sound_contents : (a : Store) → SoundContents (seen a).signature
 sound_contents a =
@@ -164,9 +165,9 @@ book_rules a =
       sort_correct = r.correct;
       left_linear = r.linear;
       patterns = r.inside;
-      few_rules = (let l = length_rules a in let f = a.rules_fit in omega arith);
+      few_rules = rules_few a;
       short = r.short;
-      room = (let l = row_room a.letters 0 a.letter_count (take a.rule_count a.rules) a.laid in let f = a.letters_fit in omega arith);
+      room = (let l = letters_counted a in let f = items_fit a.letters in omega arith);
     }
 
 pub sound_rules : (a : Store) → SoundRules (seen a)

@@ -1,36 +1,27 @@
 -- What the code's draft holds is what its view says.
-use Rattle.std.proofs.Common.{◌≡◌, ℕ, zero, suc, ◌+◌, ◌<◌, ◌≤◌, Bool, true, false, cond, eqb, List, [], ◌∷◌, length, get_or, take, Some, None, refl, ◌∙◌, arith}
+use Rattle.std.proofs.Common.{◌≡◌, ℕ, zero, suc, ◌+◌, ◌<◌, ◌≤◌, Bool, true, false, cond, eqb, List, [], ◌∷◌, length, Some, None, sym, refl, ◌∙◌, subst, ap, arith, option_map}
+use Rattle.std.proofs.lemmas.Option.{slice_get-map}
 use Rattle.std.specs.List.{slice_get}
 use Rattle.std.proofs.lemmas.Bool.{and_parts, eqb-true}
-use Rattle.std.proofs.lemmas.List.{length-map, length-take-le}
+use Rattle.terms.specs.Rows.{items}
 use Rattle.terms.specs.Names.{well_formed, name_of}
 use Rattle.terms.proofs.Letters.{zero_one}
 use Rattle.drafts.specs.declared.draft.Draft.{Draft as Store}
 use Rattle.drafts.specs.Drafts.{Sides}
 use Rattle.drafts.specs.Contents.{some_rule}
 use Rattle.drafts.specs.declared.span.Span.{Span}
-use Rattle.terms.proofs.Tables.{nth_seen, nth_unseen}
 use Rattle.drafts.specs.Views.{sides_of, in_a_row}
 use Rattle.drafts.proofs.Pools.{row_ends}
 use Rattle.drafts.specs.Stores.{seen}
 
--- as many rules as the count says
-pub length_rules : (d : Store) → length (seen d).rules ≡ d.rule_count
-length_rules d = length-map (take d.rule_count d.rules) (sides_of d.letters) ∙ length-take-le d.rule_count d.rules (let a = d.rules_fit in let b = d.rules_long in omega arith)
-
-some_long : (rs : List Sides) → 0 < length rs → some_rule rs ≡ true
+-- whether a rule stands
+pub some_long : (rs : List Sides) → 0 < length rs → some_rule rs ≡ true
 some_long [] h = absurd (omega arith)
 some_long (r ∷ rs) h = refl
 
-none_long : (rs : List Sides) → length rs ≡ 0 → some_rule rs ≡ false
+pub none_long : (rs : List Sides) → length rs ≡ 0 → some_rule rs ≡ false
 none_long [] h = refl
 none_long (r ∷ rs) h = absurd (zero_one (omega arith))
-
-pub rule_stands : (d : Store) → 0 < d.rule_count → some_rule (seen d).rules ≡ true
-rule_stands d h = some_long (seen d).rules (let e = length_rules d in omega arith)
-
-pub no_rule_stands : (d : Store) → d.rule_count ≡ 0 → some_rule (seen d).rules ≡ false
-no_rule_stands d h = none_long (seen d).rules (length_rules d ∙ h)
 
 -- bytes that are no name, and those of a name
 pub ill_formed : (n : List ℕ) → None ≡ name_of n → well_formed n ≡ false
@@ -47,42 +38,22 @@ formed n m h = go (well_formed n) h
     go true e = (refl, cc)
     go false e = absurd (zero_one (cc))
 
--- what stands at a place of an array, up to a count
-pub nth_in : (xs : List ℕ) (n i : ℕ) → i < n → n ≤ length xs → slice_get (take n xs) i ≡ Some (get_or xs i 0)
-nth_in [] n i h l = absurd (omega arith)
-nth_in (x ∷ xs) zero i h l = absurd (omega arith)
-nth_in (x ∷ xs) (suc n) zero h l = refl
-nth_in (x ∷ xs) (suc n) (suc i) h l = nth_in xs n i (omega arith) (omega arith)
+-- where the letters of a rule stand
+module _ (m : ℕ) where
+  in_row_at : (rs : List Span) (k j : ℕ) (s : Span) → in_a_row k rs m ≡ true → slice_get rs j ≡ Some s → s.start + (s.left + s.right) ≤ m
+  in_row_at [] k j s h e = absurd (zero_one (cc))
+  in_row_at (r ∷ rs) k zero s h e =
+      let p = and_parts (eqb r.start k) (in_a_row (k + (r.left + r.right)) rs m) h in
+      let i = eqb-true r.start k p.0 in
+      let q = row_ends (k + (r.left + r.right)) m rs p.1 in
+      let w : r ≡ s = cc in
+      subst (λ (z : Span). z.start + (z.left + z.right) ≤ m) w (omega arith)
+  in_row_at (r ∷ rs) k (suc j) s h e =
+      let p = and_parts (eqb r.start k) (in_a_row (k + (r.left + r.right)) rs m) h in
+      in_row_at rs (k + (r.left + r.right)) j s p.1 e
 
-pub nth_out : (xs : List ℕ) (n i : ℕ) → n ≤ i → slice_get (take n xs) i ≡ None
-nth_out [] zero i h = refl
-nth_out [] (suc n) i h = refl
-nth_out (x ∷ xs) zero i h = refl
-nth_out (x ∷ xs) (suc n) zero h = absurd (omega arith)
-nth_out (x ∷ xs) (suc n) (suc i) h = nth_out xs n i (omega arith)
+pub span_within : (d : Store) (i : ℕ) (s : Span) → Some s ≡ slice_get (items d.rules) i → s.start + (s.left + s.right) ≤ length (items d.letters)
+span_within d i s h = in_row_at (length (items d.letters)) (items d.rules) 0 i s d.laid (sym h)
 
--- the sides of a rule
-module _ (d : Store) (i : ℕ) where
-  pub rule_in : (s : Span) → i < d.rule_count → slice_get (seen d).rules i ≡ Some (sides_of d.letters (get_or d.rules i s))
-  rule_in s h = nth_seen (sides_of d.letters) d.rules d.rule_count i s h (let a = d.rules_fit in let b = d.rules_long in omega arith)
-
-  pub rule_out : d.rule_count ≤ i → slice_get (seen d).rules i ≡ None
-  rule_out h = nth_unseen (sides_of d.letters) d.rules d.rule_count i h (let a = d.rules_fit in let b = d.rules_long in omega arith)
-
-  in_row_at : (rs : List Span) (n m k j : ℕ) (s : Span) → in_a_row k (take n rs) m ≡ true → j < n → n ≤ length rs → (get_or rs j s).start + ((get_or rs j s).left + (get_or rs j s).right) ≤ m
-  in_row_at [] n m k j s h g l = absurd (omega arith)
-  in_row_at (r ∷ rs) zero m k j s h g l = absurd (omega arith)
-  in_row_at (r ∷ rs) (suc n) m k zero s h g l =
-      let p = and_parts (eqb r.start k) (in_a_row (k + (r.left + r.right)) (take n rs) m) h in
-      let e = eqb-true r.start k p.0 in
-      let q = row_ends (k + (r.left + r.right)) m (take n rs) p.1 in
-      omega arith
-  in_row_at (r ∷ rs) (suc n) m k (suc j) s h g l =
-      let p = and_parts (eqb r.start k) (in_a_row (k + (r.left + r.right)) (take n rs) m) h in
-      in_row_at rs n m (k + (r.left + r.right)) j s p.1 (omega arith) (omega arith)
-
-  pub span_within : (s : Span) → i < d.rule_count → (get_or d.rules i s).start + ((get_or d.rules i s).left + (get_or d.rules i s).right) ≤ 1024
-  span_within s h =
-      let q = in_row_at d.rules d.rule_count d.letter_count 0 i s d.laid h (let a = d.rules_fit in let b = d.rules_long in omega arith) in
-      let f = d.letters_fit in
-      omega arith
+pub rule_at : (d : Store) (i : ℕ) (s : Span) → Some s ≡ slice_get (items d.rules) i → slice_get (seen d).rules i ≡ Some (sides_of (items d.letters) s)
+rule_at d i s h = slice_get-map (sides_of (items d.letters)) (items d.rules) i ∙ ap (option_map (sides_of (items d.letters))) (sym h)

@@ -1,7 +1,7 @@
 -- The order in which rules come.
 use Rattle.std.proofs.Common.{◌≡◌, ℕ, zero, suc, ◌+◌, ◌-◌, ◌<◌, ◌≤◌, true, List, [], ◌∷◌, ◌++◌, length, get_or, drop, replicate, Some, None, sym, refl, ap, ◌∙◌, add-one, arith}
 use Rattle.std.specs.List.{slice_get}
-use Rattle.std.proofs.lemmas.List.{at_drop_more, at_drop_all}
+use Rattle.std.proofs.lemmas.List.{at_drop_more}
 use Rattle.std.proofs.lemmas.Bool.{and_parts, and_from}
 use Rattle.terms.specs.Signatures.{Signature}
 use Rattle.terms.proofs.Letters.{zero_one}
@@ -29,9 +29,6 @@ module _ (ps : List ℕ) where
 
   pub turn_more : (i n : ℕ) → i < length ps → get_or ps i 0 ≤ n → slice_get (in_turn i (drop i ps)) n ≡ slice_get (in_turn (i + 1) (drop (i + 1) ps)) (n - get_or ps i 0)
   turn_more i n h l = turn_step i n h ∙ nth_past (get_or ps i 0) i n (in_turn (i + 1) (drop (i + 1) ps)) l
-
-  pub turn_all : (i n : ℕ) → length ps ≤ i → slice_get (in_turn i (drop i ps)) n ≡ None
-  turn_all i n h = at_drop_all (λ (qs : List ℕ). slice_get (in_turn i qs) n) ps i h
 
 -- a function in turn is one of the symbols, and there are as many turns as promised rules
 in_replicate : (p s f n : ℕ) (xs : List ℕ) → slice_get (replicate p s ++ xs) n ≡ Some f → (f ≡ s → ⊥) → slice_get xs (n - p) ≡ Some f

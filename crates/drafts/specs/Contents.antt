@@ -1,6 +1,8 @@
 -- Declaring sorts, constructors and functions: the refusals in their order, and what is added. Assumes nothing.
-use Rattle.std.specs.Prelude.{ℕ, ◌+◌, Bool, true, false, cond, not, ◌&&◌, ◌||◌, List, [], ◌∷◌, ◌++◌, map, length, Some, None, Ok, Err, codes, Option, Result, ◌==◌, nat_le, nat_lt}
+use Rattle.std.specs.Prelude.{ℕ, ◌+◌, Bool, true, false, cond, not, ◌||◌, List, [], ◌∷◌, ◌++◌, map, length, Some, None, Ok, Err, codes, Option, Result, ◌==◌, nat_le, nat_lt}
 use Rattle.std.specs.Str.{bytes_eq}
+use Rattle.std.specs.List.{list_all}
+use Rattle.std.specs.Option.{option_or}
 use Rattle.terms.specs.declared.signature.Role.TheVariants.{Constructor, Function}
 use Rattle.terms.specs.Names.{well_formed, find_name}
 use Rattle.terms.specs.Signatures.{Declaration, Signature}
@@ -47,13 +49,7 @@ some_rule (r ∷ rs) = true
 
 -- whether all sorts are declared, m being their number
 abbrev pub all_below : ℕ → List ℕ → Bool
-all_below m [] = true
-all_below m (k ∷ ks) = nat_lt k m && all_below m ks
-
--- a refusal, or else the next
-abbrev pub or_else : {F : Type 0} → Option F → Option F → Option F
-or_else (Some f) next = Some f
-or_else None next = next
+all_below m ks = list_all (λ k. nat_lt k m) ks
 
 -- 1, 2 and 3
 abbrev pub name_fault : Draft → List ℕ → Option ContentFault
@@ -77,20 +73,20 @@ symbols_full D = cond (nat_le 96 (length D.signature.symbols)) (Some NoNumberLef
 
 -- the refusals of a sort
 abbrev pub sort_fault : Draft → List ℕ → Option ContentFault
-sort_fault D n = or_else (name_fault D n) (sorts_full D)
+sort_fault D n = option_or (name_fault D n) (sorts_full D)
 
 -- of a symbol of either kind, but for 6 to 8
 abbrev pub symbol_fault : Draft → List ℕ → List ℕ → ℕ → Option ContentFault
-symbol_fault D n ks k = or_else (name_fault D n) (sorts_fault D ks k)
+symbol_fault D n ks k = option_or (name_fault D n) (sorts_fault D ks k)
 
 -- of a constructor: 6 where it is one of number or truth
 abbrev pub constructor_fault : Draft → List ℕ → List ℕ → ℕ → Option ContentFault
-constructor_fault D n ks k = or_else (symbol_fault D n ks k) (cond (nat_lt k 2) (Some BuiltInSort) (symbols_full D))
+constructor_fault D n ks k = option_or (symbol_fault D n ks k) (cond (nat_lt k 2) (Some BuiltInSort) (symbols_full D))
 
 -- of a function: 7 where it promises no rule, or all functions and it more rules than there may be
 abbrev pub function_fault : Draft → List ℕ → List ℕ → ℕ → ℕ → Option ContentFault
 function_fault D n ks k p =
-    or_else (symbol_fault D n ks k) (cond (p == 0 || nat_lt most_rules (total D.promised + p)) (Some WrongPromise) (symbols_full D))
+    option_or (symbol_fault D n ks k) (cond (p == 0 || nat_lt most_rules (total D.promised + p)) (Some WrongPromise) (symbols_full D))
 
 -- one sort more
 abbrev pub with_sort : Draft → List ℕ → Draft

@@ -1,4 +1,5 @@
 pub mod Faults
+pub mod Texts
 pub mod Drafts
 pub mod Contents
 pub mod Rules

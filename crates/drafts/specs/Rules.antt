@@ -1,5 +1,7 @@
 -- Adding a rule: the refusals in their order, and what is added. Assumes nothing.
 use Rattle.std.specs.Prelude.{ℕ, ◌+◌, ◌^◌, Bool, true, false, cond, not, ◌&&◌, ◌||◌, List, [], ◌∷◌, ◌++◌, length, replicate, Some, None, Ok, Err, Option, Result, ◌==◌, nat_lt, slice_set}
+use Rattle.std.specs.List.{list_any, position}
+use Rattle.std.specs.Option.{option_or}
 use Rattle.terms.specs.declared.letter.Letter.{Letter as AnyLetter}
 use Rattle.terms.specs.declared.letter.Letter.TheVariants.{Cell, Symbol, Variable}
 use Rattle.terms.specs.declared.signature.Role.{Role}
@@ -16,7 +18,7 @@ use Rattle.drafts.specs.declared.fault.Side.TheVariants.{Left, Right}
 use Rattle.drafts.specs.declared.fault.RuleFault.{RuleFault}
 use Rattle.drafts.specs.declared.fault.RuleFault.TheVariants.{NotAwaited, Length, Letter, LeftCell, Whole, OtherFunction, InnerFunction, TwiceOnLeft, OnlyOnRight, Sort, NoRoom}
 use Rattle.drafts.specs.Drafts.{Sides, Draft, awaited, letters_in, longest_side, most_letters}
-use Rattle.drafts.specs.Contents.{Outcome, outcome, or_else}
+use Rattle.drafts.specs.Contents.{Outcome, outcome}
 
 -- whether a letter is a number cell; a variable
 abbrev pub cell_letter : Option AnyLetter → Bool
@@ -49,12 +51,11 @@ is_function S x = calls (role_of S x)
 
 -- whether a letter stands in a word
 abbrev pub stands_in : ℕ → List ℕ → Bool
-stands_in x [] = false
-stands_in x (y ∷ w) = x == y || stands_in x w
+stands_in x w = list_any (λ y. x == y) w
 
 -- the place of the first letter that passes a test
 abbrev pub first_that : (ℕ → Bool) → List ℕ → Option ℕ
-first_that p w = first_not (λ x. not (p x)) w
+first_that p w = position p w
 
 -- 12: a side is empty or too long
 abbrev pub bad_length : List ℕ → Bool
@@ -152,7 +153,7 @@ shape_faults S f q =
 
 -- the refusals of a rule of the function f, but for its room
 abbrev pub rule_fault : Signature → ℕ → Sides → Option RuleFault
-rule_fault S f q = or_else (word_faults S q) (shape_faults S f q)
+rule_fault S f q = option_or (word_faults S q) (shape_faults S f q)
 
 -- 21: too many letters in all
 abbrev pub no_room : List Sides → Sides → Bool
@@ -161,7 +162,7 @@ no_room rs q = nat_lt most_letters (letters_in rs + (length q.left + length q.ri
 -- all refusals, where f is the function awaited
 abbrev pub fault_under : Draft → Option ℕ → Sides → Option RuleFault
 fault_under D None q = Some NotAwaited
-fault_under D (Some f) q = or_else (rule_fault D.signature f q) (cond (no_room D.rules q) (Some NoRoom) None)
+fault_under D (Some f) q = option_or (rule_fault D.signature f q) (cond (no_room D.rules q) (Some NoRoom) None)
 
 abbrev pub rule_refusal : Draft → Sides → Option RuleFault
 rule_refusal D q = fault_under D (awaited D) q

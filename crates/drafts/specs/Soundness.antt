@@ -1,5 +1,5 @@
 -- What every draft keeps, as a test. Assumes nothing.
-use Rattle.std.specs.Prelude.{ℕ, Bool, true, false, not, ◌&&◌, ◌||◌, List, [], ◌∷◌, length, drop, Some, None, Option, ◌==◌, nat_le, nat_lt}
+use Rattle.std.specs.Prelude.{◌≡◌, ℕ, ◌<◌, ◌≤◌, Bool, true, false, not, ◌&&◌, ◌||◌, List, [], ◌∷◌, length, drop, Some, None, Option, ◌==◌, nat_le, nat_lt}
 use Rattle.std.specs.Str.{bytes_eq}
 use Rattle.terms.specs.declared.signature.Role.{Role}
 use Rattle.terms.specs.declared.signature.Role.TheVariants.{Constructor, Function, Operation}
@@ -8,7 +8,7 @@ use Rattle.terms.specs.Signatures.{Declaration, Signature, built_in}
 use Rattle.terms.specs.Roots.{is_constructor}
 use Rattle.drafts.specs.declared.fault.RuleFault.{RuleFault}
 use Rattle.drafts.specs.Drafts.{Sides, Draft, in_turn, total, most_rules}
-use Rattle.drafts.specs.Contents.{names, is_found, all_below}
+use Rattle.drafts.specs.Contents.{names, is_found, all_below, with_symbol}
 use Rattle.drafts.specs.Rules.{rule_fault}
 
 -- no name stands twice
@@ -88,3 +88,13 @@ no_operation (d ∷ ds) = not (same_role d.role Operation) && no_operation ds
 -- past the first three symbols none is an operation
 abbrev pub three_operations : Signature → Bool
 three_operations S = no_operation (drop 3 S.symbols)
+
+-- a symbol that may be added with the rules that it promises: its numbers fit, and the draft stays sound
+pub record Addable (D : Draft) (d : Declaration) (p : ℕ) : Type 0 where
+  pub few : length d.args ≤ 4
+  pub small : all_below 16 (d.sort ∷ d.args) ≡ true
+  pub room : length D.signature.symbols < 96
+  pub promised : p ≤ most_rules
+  pub kind : same_role d.role Operation ≡ false
+  pub sound : is_sound (with_symbol D d p) ≡ true
+  pub operations : three_operations (with_symbol D d p).signature ≡ true

@@ -1,6 +1,7 @@
 -- What the code's draft is, and what a call does with it.
-use Rattle.std.specs.Prelude.{◌≡◌, ℕ, List, take, Some, None, Ok, Err, Option, Result}
+use Rattle.std.specs.Prelude.{◌≡◌, ℕ, List, Some, None, Ok, Err, Option, Result}
 use Rattle.terms.specs.declared.name.Name.{Name}
+use Rattle.terms.specs.Rows.{items}
 use Rattle.terms.specs.Views.{bytes_of}
 use Rattle.drafts.specs.declared.draft.Draft.{Draft as Store}
 use Rattle.drafts.specs.Drafts.{Draft}
@@ -9,7 +10,7 @@ use Rattle.drafts.specs.Views.{drafted}
 
 -- a draft: what stands up to its counts
 abbrev pub seen : Store → Draft
-seen d = drafted d.signature d.promised d.letters (take d.rule_count d.rules)
+seen d = drafted d.signature d.promised (items d.letters) (items d.rules)
 
 -- a call answered and changed a draft as it should, and left it exactly as it was where it refused
 pub record Does {F : Type 0} (o : Outcome F) (r : Result ℕ F) (a b : Store) : Type 0 where

@@ -1,12 +1,13 @@
 // Drafts: books while they are written.
-ghost use Rattle.std.specs.Prelude.{◌≡◌, ◌≤◌, true, length, take};
-ghost use Rattle.drafts.specs.Drafts.{most_rules, most_letters};
+ghost use Rattle.std.specs.Prelude.{◌≡◌, true, length};
 ghost use Rattle.drafts.specs.Views.{drafted, in_a_row};
+ghost use Rattle.terms.specs.Rows.{items};
 ghost use Rattle.terms.specs.Views.{view};
 ghost use Rattle.drafts.specs.Soundness.{is_sound, three_operations};
 
 use crate::span::Span;
-use terms::signature::Signature;
+use terms::row::Row;
+use terms::signature::{MOST_SYMBOLS, Signature};
 
 pub mod contents;
 pub mod reads;
@@ -25,15 +26,11 @@ pub const MOST_LETTERS: usize = 1024;
 #[derive(Clone, Copy)]
 pub struct Draft {
     signature: Signature,
-    promised: [u8; 96],
-    letters: [u64; MOST_LETTERS],
-    letter_count: usize,
-    rules: [Span; MOST_RULES],
-    rule_count: usize,
-    ghost rules_long: { length rules ≡ most_rules },
-    ghost rules_fit: { rule_count ≤ most_rules },
-    ghost letters_fit: { letter_count ≤ most_letters },
-    ghost laid: { in_a_row 0 (take rule_count rules) letter_count ≡ true },
-    ghost sound: { is_sound (drafted signature promised letters (take rule_count rules)) ≡ true },
+    // No row: the signature counts the symbols. 0 stands where there is no function, as sums and counts take it.
+    promised: [u8; MOST_SYMBOLS],
+    letters: Row<u64, MOST_LETTERS>,
+    rules: Row<Span, MOST_RULES>,
+    ghost laid: { in_a_row 0 (items rules) (length (items letters)) ≡ true },
+    ghost sound: { is_sound (drafted signature promised (items letters) (items rules)) ≡ true },
     ghost operations: { three_operations (view signature) ≡ true },
 }

@@ -1,9 +1,13 @@
 // Why a call on a draft is refused.
-ghost use Rattle.std.specs.Prelude.{◌≡◌};
+ghost use Rattle.std.specs.Prelude.{◌≡◌, Some};
 ghost use Rattle.drafts.specs.Faults.{content_number, rule_number};
+ghost use Rattle.drafts.specs.Texts.{content_reason, content_text, side_text, rule_reason, rule_text};
+
+use std::error::Error;
+use std::fmt;
 
 // Why a sort, a constructor or a function is not added.
-#[derive(Clone, Copy, PartialEq, Debug)]
+#[derive(Clone, Copy, PartialEq, Eq, Debug)]
 pub enum ContentFault {
     RuleStands,
     MalformedName,
@@ -16,14 +20,14 @@ pub enum ContentFault {
 }
 
 // A side of a rule.
-#[derive(Clone, Copy, PartialEq, Debug)]
+#[derive(Clone, Copy, PartialEq, Eq, Debug)]
 pub enum Side {
     Left,
     Right,
 }
 
 // Why a rule is not added, with the side and the index of the first letter at fault.
-#[derive(Clone, Copy, PartialEq, Debug)]
+#[derive(Clone, Copy, PartialEq, Eq, Debug)]
 pub enum RuleFault {
     NotAwaited,
     Length(Side),
@@ -39,7 +43,7 @@ pub enum RuleFault {
 }
 
 impl ContentFault {
-    // The fault's number.
+    // The fault's number; the name says so, which a conversion would not.
     pub fn number(self) -> u8
         ensures { result ≡ content_number self }
     {
@@ -57,7 +61,7 @@ impl ContentFault {
 }
 
 impl RuleFault {
-    // The fault's number, and the side and the index of the letter at fault.
+    // The fault's number, and the side and the index of the letter at fault; the names of a conversion would not say so.
     pub fn numbered(self) -> (u8, Side, usize)
         ensures { result ≡ rule_number self }
     {
@@ -76,3 +80,77 @@ impl RuleFault {
         }
     }
 }
+
+impl ContentFault {
+    // What is wrong, in words.
+    fn reason(self) -> &'static str
+        ensures { result.now ≡ content_reason self }
+    {
+        match self {
+            ContentFault::RuleStands => "a rule stands already",
+            ContentFault::MalformedName => "the name is malformed",
+            ContentFault::NameTaken => "the name is taken",
+            ContentFault::UndeclaredSort => "a sort is not declared",
+            ContentFault::TooManyArguments => "there are more than four arguments",
+            ContentFault::BuiltInSort => "a constructor may not make numbers or truths",
+            ContentFault::WrongPromise => "the promise is no rule or too many",
+            ContentFault::NoNumberLeft => "no number is left",
+        }
+    }
+}
+
+impl fmt::Display for ContentFault {
+    ghost output = { λ fault. Some (content_text fault) };
+
+    fn fmt<W: fmt::Write>(&self, f: &mut fmt::Formatter<W>) -> fmt::Result {
+        let number = self.number();
+        let reason = self.reason();
+        write!(f, "{number}: {reason}")
+    }
+}
+
+impl Error for ContentFault {}
+
+impl fmt::Display for Side {
+    ghost output = { λ side. Some (side_text side) };
+
+    fn fmt<W: fmt::Write>(&self, f: &mut fmt::Formatter<W>) -> fmt::Result {
+        f.write_str(match self {
+            Side::Left => "left",
+            Side::Right => "right",
+        })
+    }
+}
+
+impl RuleFault {
+    // What is wrong, in words.
+    fn reason(self) -> &'static str
+        ensures { result.now ≡ rule_reason self }
+    {
+        match self {
+            RuleFault::NotAwaited => "no rule is awaited",
+            RuleFault::Length(_) => "the side is empty or too long",
+            RuleFault::Letter(_, _) => "the number is no letter or an undeclared symbol",
+            RuleFault::LeftCell(_) => "a number cell stands on the left",
+            RuleFault::Whole(_, _) => "the side is not one whole term",
+            RuleFault::OtherFunction => "the left side is not of the function awaited",
+            RuleFault::InnerFunction(_) => "a function stands inside the left side",
+            RuleFault::TwiceOnLeft(_) => "a variable stands twice on the left",
+            RuleFault::OnlyOnRight(_) => "a variable stands on the right only",
+            RuleFault::Sort(_, _) => "the letter has not the sort due there",
+            RuleFault::NoRoom => "there is no room for the letters",
+        }
+    }
+}
+
+impl fmt::Display for RuleFault {
+    ghost output = { λ fault. Some (rule_text fault) };
+
+    fn fmt<W: fmt::Write>(&self, f: &mut fmt::Formatter<W>) -> fmt::Result {
+        let (number, side, at) = self.numbered();
+        let reason = self.reason();
+        write!(f, "{number}: {reason} ({side} letter {at})")
+    }
+}
+
+impl Error for RuleFault {}

@@ -1,15 +1,16 @@
 // What is wrong with the two words of a rule.
-ghost use Rattle.std.specs.Prelude.{◌≡◌, ◌+◌, ◌<◌, ◌≤◌, true, false, not, ◌&&◌, ◌||◌, [], ◌∷◌, length};
+ghost use Rattle.std.specs.Prelude.{cond, Some, None, ◌≡◌, ◌+◌, ◌<◌, ◌≤◌, true, false, not, ◌&&◌, ◌||◌, [], ◌∷◌, length};
 ghost use Rattle.terms.specs.Terms.{own};
 ghost use Rattle.terms.specs.Sorting.{closed, fn_sort};
 ghost use Rattle.terms.specs.Roots.{args_of};
 ghost use Rattle.terms.specs.Letters.{letter_of};
 ghost use Rattle.terms.specs.Views.{view};
-ghost use Rattle.words.specs.Faults.{due_after, suits};
+ghost use Rattle.words.specs.Faults.{due_after, first_not, is_declared, not_whole, suits};
 ghost use Rattle.drafts.specs.Drafts.{sides, longest_side};
-ghost use Rattle.drafts.specs.Rules.{is_cell, is_variable, is_function, stands_in, first_that, bad_length, first_cell, starts_with, inner_function, is_again, first_twice, is_new, first_new, takes_sort, noted, left_sorts, none_known, word_faults, shape_faults, sort_wrong};
+ghost use Rattle.drafts.specs.Rules.{at_place, is_cell, is_variable, is_function, stands_in, first_that, bad_length, first_cell, starts_with, inner_function, is_again, first_twice, is_new, first_new, takes_sort, noted, left_sorts, none_known, word_faults, shape_faults, sort_wrong};
 ghost use Rattle.drafts.specs.Dues.{pending};
 ghost use Rattle.drafts.specs.Stores.{verdict};
+ghost use Rattle.drafts.specs.declared.fault.RuleFault.TheVariants.{Length, Letter as BadLetter, Whole};
 
 use crate::draft::LONGEST_SIDE;
 use crate::due::Due;
@@ -18,42 +19,32 @@ use terms::letter::Letter;
 use terms::signature::{Role, Signature};
 use words::checks::{not_whole, sorts_end, undeclared_letter};
 
+// `is_variable` and `is_function` are such tests too: one `matches!` each, which a shared function would not shorten.
 fn is_cell(letter: u64) -> bool
     ensures { result ≡ is_cell letter }
 {
-    match Letter::of(letter) {
-        Some(Letter::Cell(_)) => true,
-        Some(Letter::Symbol(_) | Letter::Variable(_)) | None => false,
-    }
+    matches!(Letter::try_from(letter), Ok(Letter::Cell(_)))
 }
 
 fn is_variable(letter: u64) -> bool
     ensures { result ≡ is_variable letter }
 {
-    match Letter::of(letter) {
-        Some(Letter::Variable(_)) => true,
-        Some(Letter::Symbol(_) | Letter::Cell(_)) | None => false,
-    }
+    matches!(Letter::try_from(letter), Ok(Letter::Variable(_)))
 }
 
 fn is_function(signature: &Signature, letter: u64) -> bool
     ensures { result ≡ is_function (view signature.now) letter }
 {
-    match signature.role(letter) {
-        Some(Role::Function | Role::Operation) => true,
-        Some(Role::Constructor) | None => false,
-    }
+    matches!(
+        signature.role(letter),
+        Some(Role::Function | Role::Operation)
+    )
 }
 
 fn stands_in(letter: u64, word: &[u64]) -> bool
     ensures { result ≡ stands_in letter word.now }
 {
-    for other in word {
-        if letter == *other {
-            return true;
-        }
-    }
-    false
+    word.contains(&letter)
 }
 
 fn bad_length(word: &[u64]) -> bool
@@ -63,25 +54,18 @@ fn bad_length(word: &[u64]) -> bool
 }
 
 // The first number cell.
+// `first_function` and `first_new` search likewise: each is one `position`, and a search that takes the test would be `position` again.
 fn first_cell(word: &[u64]) -> Option<usize>
     ensures { result ≡ first_cell word.now }
 {
-    for (i, letter) in word.iter().enumerate() {
-        if is_cell(*letter) {
-            return Some(i);
-        }
-    }
-    None
+    word.iter().position(|letter| is_cell(*letter))
 }
 
 // Whether a word starts with a function's letter.
 fn starts_with(function: u8, word: &[u64]) -> bool
     ensures { result ≡ starts_with function word.now }
 {
-    let [first, ..] = word else {
-        return false;
-    };
-    *first == Letter::Symbol(function).number()
+    matches!(word, [first, ..] if *first == u64::from(Letter::Symbol(function)))
 }
 
 // The first function past the first letter.
@@ -91,23 +75,17 @@ fn inner_function(signature: &Signature, word: &[u64]) -> Option<usize>
     let [_, rest @ ..] = word else {
         return None;
     };
-    match first_function(signature, rest) {
-        Some(at) => Some(at + 1),
-        None => None,
-    }
+    Some(first_function(signature, rest)? + 1)
 }
 
 fn first_function(signature: &Signature, word: &[u64]) -> Option<usize>
     ensures { result ≡ first_that (is_function (view signature.now)) word.now }
 {
-    for (i, letter) in word.iter().enumerate() {
-        if is_function(signature, *letter) {
-            return Some(i);
-        }
-    }
-    None
+    word.iter()
+        .position(|letter| is_function(signature, *letter))
 }
 
+// `is_new` asks the same with a not: a line each.
 fn is_again(before: &[u64], letter: u64) -> bool
     ensures { result ≡ is_again before.now letter }
 {
@@ -118,8 +96,9 @@ fn is_again(before: &[u64], letter: u64) -> bool
 fn first_twice(word: &[u64]) -> Option<usize>
     ensures { result ≡ first_twice word.now }
 {
+    // A loop: inside a closure of `position` it is not known that i is a place in the word.
     for (i, letter) in word.iter().enumerate() {
-        if is_again(&word[0..i], *letter) {
+        if is_again(&word[..i], *letter) {
             return Some(i);
         }
     }
@@ -136,12 +115,7 @@ fn is_new(left: &[u64], letter: u64) -> bool
 fn first_new(left: &[u64], right: &[u64]) -> Option<usize>
     ensures { result ≡ first_new left.now right.now }
 {
-    for (i, letter) in right.iter().enumerate() {
-        if is_new(left, *letter) {
-            return Some(i);
-        }
-    }
-    None
+    right.iter().position(|letter| is_new(left, *letter))
 }
 
 // Whether a letter on the left takes the sort due: a variable takes any.
@@ -151,21 +125,20 @@ fn takes_sort(signature: &Signature, letter: u64, sort: u8) -> bool
     is_variable(letter) || has_sort(signature, letter, sort)
 }
 
+// As `suits` of words where no variable has a sort; that one is not public.
 fn has_sort(signature: &Signature, letter: u64, sort: u8) -> bool
     ensures { result ≡ suits (view signature.now) closed letter sort }
 {
-    match signature.sort(letter) {
-        Some(own) => own == sort,
-        None => false,
-    }
+    signature.sort(letter) == Some(sort)
 }
 
 // Notes the sort of a variable's letter.
+// A place for each of the eight variables: no heap.
 fn note(letter: u64, sort: u8, known: &mut [Option<u8>; 8])
     ensures { known.new ≡ noted (letter_of letter) sort known.old }
 {
-    if let Some(Letter::Variable(variable)) = Letter::of(letter) {
-        known[variable as usize] = Some(sort);
+    if let Ok(Letter::Variable(variable)) = Letter::try_from(letter) {
+        known[usize::from(variable)] = Some(sort);
     }
 }
 
@@ -180,12 +153,14 @@ fn expect(signature: &Signature, letter: u64, due: &mut Due)
 }
 
 // Along a left side: the sorts of its variables, or the first letter that has not the sort due there.
+// The refusal is a place, to which the caller adds the side. The side is short by `word_faults`: a type would serve one call.
 fn left_sorts(signature: &Signature, left: &[u64], sort: u8) -> Result<[Option<u8>; 8], usize>
     requires { length left.now ≤ longest_side }
     ensures { result ≡ left_sorts (view signature.now) (sort ∷ []) none_known left.now }
 {
     let mut due = Due::one(sort);
     let mut known = [None; 8];
+    // A loop: what is due and what is known change along it, and of a closure that changes them nothing is known.
     for (i, letter) in left.iter().enumerate() {
         let Some(next) = due.next() else {
             return Ok(known);
@@ -199,7 +174,34 @@ fn left_sorts(signature: &Signature, left: &[u64], sort: u8) -> Result<[Option<u
     Ok(known)
 }
 
+// A side's length.
+// Side and word, as in `letter_fault` and `whole_fault`: a struct of both would be made for each call.
+fn length_fault(side: Side, word: &[u64]) -> Result<(), RuleFault>
+    ensures { result ≡ verdict (cond (bad_length word.now) (Some (Length side)) None) tt }
+{
+    if bad_length(word) {
+        return Err(RuleFault::Length(side));
+    }
+    Ok(())
+}
+
+// A side's letters.
+// `whole_fault` has the same form with another question and another refusal: one line each.
+fn letter_fault(signature: &Signature, side: Side, word: &[u64]) -> Result<(), RuleFault>
+    ensures { result ≡ verdict (at_place (BadLetter side) (first_not (is_declared (view signature.now)) word.now) None) tt }
+{
+    undeclared_letter(signature, word).map_or(Ok(()), |at| Err(RuleFault::Letter(side, at)))
+}
+
+// Whether a side is one whole term.
+fn whole_fault(signature: &Signature, side: Side, word: &[u64]) -> Result<(), RuleFault>
+    ensures { result ≡ verdict (at_place (Whole side) (not_whole (view signature.now) word.now) None) tt }
+{
+    not_whole(signature, word).map_or(Ok(()), |at| Err(RuleFault::Whole(side, at)))
+}
+
 // What the words of a rule are refused for, whatever function it is for.
+// The words go as `add_rule` takes them: a struct of the two would be made for three calls, and read field by field.
 pub(crate) fn word_faults(
     signature: &Signature,
     left: &[u64],
@@ -207,28 +209,15 @@ pub(crate) fn word_faults(
 ) -> Result<(), RuleFault>
     ensures { result ≡ verdict (word_faults (view signature.now) (sides left.now right.now)) tt }
 {
-    if bad_length(left) {
-        return Err(RuleFault::Length(Side::Left));
-    }
-    if bad_length(right) {
-        return Err(RuleFault::Length(Side::Right));
-    }
-    if let Some(at) = undeclared_letter(signature, left) {
-        return Err(RuleFault::Letter(Side::Left, at));
-    }
-    if let Some(at) = undeclared_letter(signature, right) {
-        return Err(RuleFault::Letter(Side::Right, at));
-    }
+    length_fault(Side::Left, left)?;
+    length_fault(Side::Right, right)?;
+    letter_fault(signature, Side::Left, left)?;
+    letter_fault(signature, Side::Right, right)?;
     if let Some(at) = first_cell(left) {
         return Err(RuleFault::LeftCell(at));
     }
-    if let Some(at) = not_whole(signature, left) {
-        return Err(RuleFault::Whole(Side::Left, at));
-    }
-    if let Some(at) = not_whole(signature, right) {
-        return Err(RuleFault::Whole(Side::Right, at));
-    }
-    Ok(())
+    whole_fault(signature, Side::Left, left)?;
+    whole_fault(signature, Side::Right, right)
 }
 
 // What they are refused for as a rule of a function.
@@ -238,7 +227,6 @@ pub(crate) fn shape_faults(
     left: &[u64],
     right: &[u64],
 ) -> Result<(), RuleFault>
-    requires few { function < 96 }
     requires short { length left.now ≤ longest_side }
     ensures { result ≡ verdict (shape_faults (view signature.now) function (sides left.now right.now)) tt }
 {
@@ -257,13 +245,12 @@ pub(crate) fn shape_faults(
     sort_faults(signature, function_sort(signature, function), left, right)
 }
 
+// A function's own sort.
+// Trees read the sort of a constructor so, too: one line over `symbol_sort` in each crate.
 fn function_sort(signature: &Signature, function: u8) -> u8
-    requires { function < 96 }
     ensures { result ≡ fn_sort (view signature.now) (own function) }
 {
-    signature
-        .sort(Letter::Symbol(function).number())
-        .unwrap_or(0)
+    signature.symbol_sort(function).unwrap_or(0)
 }
 
 fn sort_faults(
@@ -275,12 +262,7 @@ fn sort_faults(
     requires { length left.now ≤ longest_side }
     ensures { result ≡ verdict (sort_wrong (view signature.now) sort right.now (left_sorts (view signature.now) (sort ∷ []) none_known left.now)) tt }
 {
-    let known = match left_sorts(signature, left, sort) {
-        Ok(known) => known,
-        Err(at) => return Err(RuleFault::Sort(Side::Left, at)),
-    };
-    match sorts_end(signature, &known, right, sort) {
-        Ok(_) => Ok(()),
-        Err(at) => Err(RuleFault::Sort(Side::Right, at)),
-    }
+    let known = left_sorts(signature, left, sort).map_err(|at| RuleFault::Sort(Side::Left, at))?;
+    sorts_end(signature, &known, right, sort).map_err(|at| RuleFault::Sort(Side::Right, at))?;
+    Ok(())
 }

@@ -1,5 +1,6 @@
 // Where the letters of a rule stand in the pool: the left side's from the start on, then the right side's.
-#[derive(Clone, Copy)]
+// No heap: the words of all rules lie in one pool.
+#[derive(Clone, Copy, PartialEq, Eq, Debug)]
 pub struct Span {
     pub start: usize,
     pub left: usize,

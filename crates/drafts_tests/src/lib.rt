@@ -6,48 +6,45 @@ mod tests {
     use drafts::draft::Draft;
     use drafts::fault::{ContentFault, RuleFault, Side};
     use std::test::Fail;
+    use terms::letter::{PLUS, SYMBOLS, TRUE, VARIABLES};
 
-    const PLUS: u64 = 0x1_0000_0000;
+    // The letters of what these tests declare, and of their variables; each program names its own.
+    const ZERO: u64 = SYMBOLS + 5;
 
-    const TRUE: u64 = 0x1_0000_0003;
+    const UP: u64 = SYMBOLS + 6;
 
-    const ZERO: u64 = 0x1_0000_0005;
+    const MEET: u64 = SYMBOLS + 7;
 
-    const UP: u64 = 0x1_0000_0006;
+    const LAST: u64 = SYMBOLS + 8;
 
-    const MEET: u64 = 0x1_0000_0007;
+    const X: u64 = VARIABLES;
 
-    const LAST: u64 = 0x1_0000_0008;
-
-    const X: u64 = 0x2_0000_0000;
-
-    const Y: u64 = 0x2_0000_0001;
+    const Y: u64 = VARIABLES + 1;
 
     // The number of a refusal of contents; 0 where nothing was refused.
     fn content(answer: Result<u8, ContentFault>) -> u8 {
-        match answer {
-            Ok(_) => 0,
-            Err(fault) => fault.number(),
-        }
+        answer.err().map_or(0, |fault| fault.number())
     }
 
     // The number of a refusal of a rule, and the side and index that it names.
     fn rule(answer: Result<usize, RuleFault>) -> Option<(u8, Side, usize)> {
-        match answer {
-            Ok(_) => None,
-            Err(fault) => Some(fault.numbered()),
-        }
+        answer.err().map(|fault| fault.numbered())
     }
 
     // The sort level with zero, up and meet, which promises three rules, and last, which promises one.
-    fn levels() -> Draft {
+    fn declared() -> Result<Draft, ContentFault> {
         let mut draft = Draft::new();
-        let _ = draft.declare_sort(b"level");
-        let _ = draft.declare_constructor(b"zero", &[], 2);
-        let _ = draft.declare_constructor(b"up", &[2], 2);
-        let _ = draft.declare_function(b"meet", &[2, 2], 2, 3);
-        let _ = draft.declare_function(b"last", &[0], 2, 1);
-        draft
+        draft.declare_sort(b"level")?;
+        draft.declare_constructor(b"zero", &[], 2)?;
+        draft.declare_constructor(b"up", &[2], 2)?;
+        draft.declare_function(b"meet", &[2, 2], 2, 3)?;
+        draft.declare_function(b"last", &[0], 2, 1)?;
+        Ok(draft)
+    }
+
+    // Other tests and the programs make such drafts too, each by the calls that it shows.
+    fn levels() -> Result<Draft, Fail> {
+        declared().map_err(|_| Fail::new("the levels are refused"))
     }
 
     #[test]
@@ -65,8 +62,8 @@ mod tests {
     }
 
     #[test]
-    fn symbols_are_refused(rt: HostRuntime) {
-        let mut draft = levels();
+    fn symbols_are_refused(rt: HostRuntime) -> Result<(), Fail> {
+        let mut draft = levels()?;
         assert_eq!(rt; content(draft.declare_constructor(b"a", &[0, 3], 2)), 4);
         assert_eq!(rt;
             content(draft.declare_constructor(b"a", &[0, 0, 0, 0, 0, 9], 2)),
@@ -89,6 +86,7 @@ mod tests {
         assert_eq!(rt; content(draft.declare_function(b"b", &[], 0, 93)), 7);
         assert_eq!(rt; content(draft.declare_function(b"b", &[], 0, 92)), 0);
         assert_eq!(rt; content(draft.declare_function(b"c", &[], 0, 1)), 7);
+        Ok(())
     }
 
     // A name of two letters.
@@ -99,6 +97,7 @@ mod tests {
     #[test]
     fn numbers_run_out(rt: HostRuntime) {
         let mut draft = Draft::new();
+        // By number, here and below: each number makes a name.
         for i in 0..14u8 {
             let sort = name(25, i);
             assert_eq!(rt; content(draft.declare_sort(&sort)), 0);
@@ -113,8 +112,8 @@ mod tests {
     }
 
     #[test]
-    fn rules_are_refused(rt: HostRuntime) {
-        let mut draft = levels();
+    fn rules_are_refused(rt: HostRuntime) -> Result<(), Fail> {
+        let mut draft = levels()?;
         let long = [X; 65];
         let mut none = Draft::new();
         assert_eq!(rt;
@@ -150,11 +149,12 @@ mod tests {
             rule(draft.add_rule(&[LAST, X], &[ZERO])),
             Some((16, Side::Left, 0))
         );
+        Ok(())
     }
 
     #[test]
-    fn shapes_are_refused(rt: HostRuntime) {
-        let mut draft = levels();
+    fn shapes_are_refused(rt: HostRuntime) -> Result<(), Fail> {
+        let mut draft = levels()?;
         assert_eq!(rt;
             rule(draft.add_rule(&[MEET, ZERO, PLUS, X, Y], &[X])),
             Some((17, Side::Left, 2))
@@ -180,15 +180,12 @@ mod tests {
             Some((20, Side::Right, 0))
         );
         assert_eq!(rt; draft.rule_count(), 0);
-    }
-
-    fn same(word: &[u64], other: &[u64]) -> bool {
-        word == other
+        Ok(())
     }
 
     #[test]
     fn meet_is_written(rt: HostRuntime) -> Result<(), Fail> {
-        let mut draft = levels();
+        let mut draft = levels()?;
         assert_eq!(rt; draft.awaited(), Some(7));
         assert_eq!(rt; rule(draft.add_rule(&[MEET, ZERO, Y], &[ZERO])), None);
         assert_eq!(rt; content(draft.declare_sort(b"late")), 1);
@@ -207,13 +204,11 @@ mod tests {
         assert_eq!(rt; draft.rule_count(), 4);
         assert_eq!(rt; draft.function_count(), 2);
         assert_eq!(rt; draft.promised(7), Some(3));
-        let Some(left) = draft.left(2) else {
-            return Err(Fail::new("no left side"));
-        };
-        let Some(right) = draft.right(2) else {
-            return Err(Fail::new("no right side"));
-        };
-        assert!(rt; same(left, &[MEET, UP, X, UP, Y]) && same(right, &[UP, MEET, X, Y]));
+        let left = draft.left(2).ok_or_else(|| Fail::new("no left side"))?;
+        let right = draft.right(2).ok_or_else(|| Fail::new("no right side"))?;
+        assert!(rt;
+            left == [MEET, UP, X, UP, Y].as_slice() && right == [UP, MEET, X, Y].as_slice()
+        );
         Ok(())
     }
 
@@ -228,9 +223,9 @@ mod tests {
     #[test]
     fn letters_run_out(rt: HostRuntime) {
         let mut draft = Draft::new();
-        let _ = draft.declare_sort(b"level");
-        let _ = draft.declare_constructor(b"zero", &[], 2);
-        let _ = draft.declare_constructor(b"up", &[2], 2);
+        assert_eq!(rt; content(draft.declare_sort(b"level")), 0);
+        assert_eq!(rt; content(draft.declare_constructor(b"zero", &[], 2)), 0);
+        assert_eq!(rt; content(draft.declare_constructor(b"up", &[2], 2)), 0);
         assert_eq!(rt; content(draft.declare_function(b"f", &[2], 2, 96)), 0);
         let left = tower(MEET);
         let right = tower(UP);

@@ -1,8 +1,7 @@
 -- What one tick and a whole sweep come to. Assumes nothing.
-use Rattle.std.proofs.Common.{◌≡◌, ℕ, ◌+◌, ◌%◌, ◌<◌, ◌≤◌, min, List, [], ◌∷◌, ◌++◌, length, get_or, drop, ℤ, pos, ◌+ℤ◌, sum, sym, ap, ◌∙◌, append_assoc, arith}
+use Rattle.std.proofs.Common.{◌≡◌, ℕ, ◌+◌, ◌%◌, ◌≤◌, min, List, [], ◌∷◌, ℤ, pos, ◌+ℤ◌, sum, sym, ap, ◌∙◌, arith}
 use Rattle.std.specs.Int.{int_min}
 use Rattle.std.proofs.lemmas.List.Sums.{sum_by-cons}
-use Rattle.std.proofs.lemmas.List.{drop_more}
 use Rattle.std.proofs.lemmas.Int.{ints, clamps, to_z-of_z}
 use Rattle.std.proofs.lemmas.Bool.Decides.{nat_tests}
 use Rattle.numbers.specs.Meaning.{Lawful, plus_answer}
@@ -12,18 +11,6 @@ use Rattle.numbers.specs.Tenths.{tenths, reading, most}
 use Rattle.numbers.specs.Limits.{limits}
 use Rattle.meters.specs.declared.Panel.{Panel}
 use Rattle.meters.specs.Sweep.{ticked, swept, last_of, SoundPanel, AddsUp, Steady}
-
--- the panels from tick i on: the next one, and those after it
-swept_more : (p : Panel) (ns : List ℕ) (i : ℕ) → i < length ns
-    → swept p (drop i ns) ≡ ticked p (get_or ns i 0) ∷ swept (ticked p (get_or ns i 0)) (drop (i + 1) ns)
-swept_more p ns i h = ap (swept p) (drop_more ns i 0 h)
-
--- a panel that is pushed moves from those to come to those that stand
-pub one_more : (stand stand' all : List Panel) (p q : Panel) (ns : List ℕ) (i : ℕ) → i < length ns
-    → stand' ≡ stand ++ (q ∷ []) → q ≡ ticked p (get_or ns i 0) → stand ++ swept p (drop i ns) ≡ all → stand' ++ swept q (drop (i + 1) ns) ≡ all
-one_more stand stand' all p q ns i h pushed ticks before =
-    ap (λ x. x ++ swept q (drop (i + 1) ns)) pushed ∙ append_assoc stand (q ∷ []) (swept q (drop (i + 1) ns))
-    ∙ ap (λ x. stand ++ (x ∷ swept x (drop (i + 1) ns))) ticks ∙ ap (λ x. stand ++ x) (sym (swept_more p ns i h)) ∙ before
 
 -- one tick of each meter: the sum in its kind, which is lawful again
 count_step : (a n : ℕ) → Lawful pulses a → n ≤ 300 → (plus_answer pulses a n ≡ min (a + n) 999999) × Lawful pulses (plus_answer pulses a n)

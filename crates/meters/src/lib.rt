@@ -1,16 +1,18 @@
 // A pulse generator feeds four meters, each of its own number kind.
 #![tactic(auto)]
 
-ghost use Rattle.std.specs.Prelude.{◌≡◌, true, length, take, sum, count_by, nat_le};
-ghost use Rattle.meters.specs.Sweep.{fed, standstill, ticked, same_mark, shows as shown, filled, last_of, SoundPanel, Steady, AddsUp, totals_of};
+ghost use Rattle.std.specs.Prelude.{Some, codes, ◌≡◌, true, length, take, sum, count_by, nat_le, is_ok};
+ghost use Rattle.meters.specs.Sweep.{fed, free as untouched, standstill, ticked, shows as shown, filled, last_of, SoundPanel, Steady, AddsUp, totals_of};
 
 use numbers::{Limits, NumberKind, PulseCount, SignedTenths, TripRing};
+use std::error::Error;
+use std::fmt;
 
 // The upper end of the gauge.
 const RED_LINE: u32 = 300;
 
 // What happened to a reading on its way: nothing, it stopped at an end, or it went past one and came round.
-#[derive(Clone, Copy, PartialEq, Debug)]
+#[derive(Clone, Copy, Debug, PartialEq, Eq)]
 pub enum Mark {
     Free,
     Held,
@@ -18,14 +20,14 @@ pub enum Mark {
 }
 
 // What a meter reads, and what happened on the way there.
-#[derive(Clone, Copy)]
+#[derive(Clone, Copy, Debug, PartialEq, Eq)]
 pub struct Reading {
     pub cell: u32,
     pub mark: Mark,
 }
 
 // The four meters: a pulse count, a trip ring, a temperature in tenths of a degree, and a gauge with a red line.
-#[derive(Clone, Copy)]
+#[derive(Clone, Copy, Debug, PartialEq, Eq)]
 pub struct Panel {
     pub count: Reading,
     pub trip: Reading,
@@ -34,13 +36,27 @@ pub struct Panel {
 }
 
 // The ticks and pulses of a sweep, and the ticks in which some meter was held or wrapped.
-#[derive(Clone, Copy)]
+#[derive(Clone, Copy, Debug, PartialEq, Eq)]
 pub struct Totals {
     pub ticks: usize,
     pub pulses: u128,
     pub held: usize,
     pub wrapped: usize,
 }
+
+// The buffer of a sweep is shorter than its ticks.
+#[derive(Clone, Copy, Debug, PartialEq, Eq)]
+pub struct TooFewPanels;
+
+impl fmt::Display for TooFewPanels {
+    ghost output = { λ _. Some (codes "too few panels for the ticks") };
+
+    fn fmt<W: fmt::Write>(&self, f: &mut fmt::Formatter<W>) -> fmt::Result {
+        f.write_str("too few panels for the ticks")
+    }
+}
+
+impl Error for TooFewPanels {}
 
 // What a meter of any kind reads once the pulses are added. Where taking them away again does not lead back,
 // it was held; where it then reads less than before, it wrapped.
@@ -58,6 +74,16 @@ pub fn feed<K: NumberKind>(kind: &K, before: u32, pulses: u32) -> Reading
     Reading { cell, mark }
 }
 
+// A reading to which nothing happened.
+fn free(cell: u32) -> Reading
+    ensures { result ≡ untouched cell }
+{
+    Reading {
+        cell,
+        mark: Mark::Free,
+    }
+}
+
 impl Panel {
     // The meters before the first tick.
     pub fn standstill() -> Panel
@@ -65,22 +91,10 @@ impl Panel {
         ensures lawful { SoundPanel result }
     {
         Panel {
-            count: Reading {
-                cell: 999_700,
-                mark: Mark::Free,
-            },
-            trip: Reading {
-                cell: 9_800,
-                mark: Mark::Free,
-            },
-            temperature: Reading {
-                cell: (-200i32).cast_unsigned(),
-                mark: Mark::Free,
-            },
-            gauge: Reading {
-                cell: 0,
-                mark: Mark::Free,
-            },
+            count: free(999_700),
+            trip: free(9_800),
+            temperature: free((-200i32).cast_unsigned()),
+            gauge: free(0),
         }
     }
 
@@ -101,58 +115,44 @@ impl Panel {
     pub fn shows(&self, mark: Mark) -> bool
         ensures { result ≡ shown mark self.now }
     {
-        same(self.count.mark, mark)
-            || same(self.trip.mark, mark)
-            || same(self.temperature.mark, mark)
-            || same(self.gauge.mark, mark)
+        // Tried as `any` over an array of the four: the clause then does not close by itself.
+        self.count.mark == mark
+            || self.trip.mark == mark
+            || self.temperature.mark == mark
+            || self.gauge.mark == mark
     }
 }
 
-fn same(a: Mark, b: Mark) -> bool
-    ensures { result ≡ same_mark a b }
-{
-    a == b
-}
-
-// Puts the panel after each tick into the caller's buffer and leaves what follows; no where the buffer is too short.
+// Puts the panel after each tick into the caller's buffer and leaves what follows; an error where the buffer is too short.
 // However the pulses are spread over the ticks, the last panel has their sum added at once.
-pub fn sweep(start: Panel, pulses: &[u32], panels: &mut [Panel]) -> bool
-    ensures fits { result ≡ nat_le (length pulses.now) (length panels.old) }
+pub fn sweep(start: Panel, pulses: &[u32], panels: &mut [Panel]) -> Result<(), TooFewPanels>
+    ensures fits { is_ok result ≡ nat_le (length pulses.now) (length panels.old) }
     ensures fills { panels.new ≡ filled start pulses.now panels.old }
-    ensures adds_up { result ≡ true → SoundPanel start → Steady pulses.now → AddsUp start pulses.now (last_of start (take (length pulses.now) panels.new)) }
+    ensures adds_up { is_ok result ≡ true → SoundPanel start → Steady pulses.now → AddsUp start pulses.now (last_of start (take (length pulses.now) panels.new)) }
 {
     if pulses.len() > panels.len() {
-        return false;
+        return Err(TooFewPanels);
     }
     let mut panel = start;
-    for i in 0..pulses.len() {
-        panel = panel.tick(pulses[i]);
+    // Written by index: in a loop over `iter_mut().zip(..)` no invariant can name the buffer.
+    for (i, n) in pulses.iter().enumerate() {
+        panel = panel.tick(*n);
         panels[i] = panel;
     }
-    true
+    Ok(())
 }
 
 fn sum_of(pulses: &[u32]) -> u128
     ensures { result ≡ sum pulses.now }
 {
-    let mut all = 0u128;
-    for n in pulses {
-        all += u128::from(*n);
-    }
-    all
+    pulses.iter().map(|n| u128::from(*n)).sum()
 }
 
 // In how many ticks some meter has the mark.
 fn ticks_with(panels: &[Panel], mark: Mark) -> usize
     ensures { result ≡ count_by (shown mark) panels.now }
 {
-    let mut ticks = 0;
-    for panel in panels {
-        if panel.shows(mark) {
-            ticks += 1;
-        }
-    }
-    ticks
+    panels.iter().filter(|panel| panel.shows(mark)).count()
 }
 
 // The closing line of a sweep.

@@ -36,6 +36,10 @@ limits m l u = between m (lower_end m l) (upper_end m l u)
 abbrev pub are_ends : Meaning → ℕ → ℕ → Bool
 are_ends m l u = m.lawful l && m.lawful u && m.atmost l u
 
+-- ends as they stand, with two cells from the one to the other
+abbrev pub both_within : Meaning → ℕ → ℕ → ℕ → ℕ → Bool
+both_within m l u a b = are_ends m l u && (within m l u a && within m l u b)
+
 -- one cell alone
 abbrev pub only : ℕ → Meaning
 only l = record { lawful = λ c. nat_eq c l; plus = λ a b. l; minus = λ a b. l; atmost = nat_eq; rest = l }

@@ -32,6 +32,7 @@ pub trait NumberKind {
 }
 
 // Every kind is sound, whatever it is made of; so its rest cell is lawful, and the answer is always yes.
+// It stays a bool: a run can show it, and code that answers no somewhere is refused.
 pub fn is_sound<K: NumberKind>(kind: &K) -> bool
     ensures sound { Sound (K.NumberKind.meaning kind.now) }
     ensures always { result ≡ true }

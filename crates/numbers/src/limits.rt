@@ -1,7 +1,7 @@
 // Limits on any kind below.
-ghost use Rattle.std.specs.Prelude.{◌≡◌, ◌^◌, ◌<◌, true, ◌&&◌};
+ghost use Rattle.std.specs.Prelude.{◌≡◌, ◌^◌, ◌<◌, true};
 ghost use Rattle.numbers.specs.Meaning.{Lawful};
-ghost use Rattle.numbers.specs.Limits.{limits, lower_end, upper_end, within, held, are_ends, stored};
+ghost use Rattle.numbers.specs.Limits.{limits, lower_end, upper_end, both_within, held, are_ends, stored};
 ghost use Rattle.numbers.specs.Bounds.{stored_sound};
 
 use crate::kind::NumberKind;
@@ -45,7 +45,7 @@ impl<K: NumberKind> Limits<K> {
 
     // Are both cells from the lower to the upper end? The order of the two is asked first, so that three questions do.
     fn both_within(&self, a: u32, b: u32) -> bool
-        ensures { result ≡ (are_ends (K.NumberKind.meaning self.now.below) self.now.lower self.now.upper && (within (K.NumberKind.meaning self.now.below) self.now.lower self.now.upper a && within (K.NumberKind.meaning self.now.below) self.now.lower self.now.upper b)) }
+        ensures { result ≡ both_within (K.NumberKind.meaning self.now.below) self.now.lower self.now.upper a b }
     {
         let (low, high) = if self.below.atmost(a, b) {
             (a, b)
@@ -81,6 +81,7 @@ impl<K: NumberKind> NumberKind for Limits<K> {
             || self.below.atmost(self.lower, cell) && self.below.atmost(cell, self.upper)
     }
 
+    // Plus and minus have one frame: tried as a generic function over a closure, but its call leads back into this block.
     fn plus(&self, a: u32, b: u32) -> u32 {
         if self.both_within(a, b) {
             self.hold(self.below.plus(a, b))

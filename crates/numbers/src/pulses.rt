@@ -6,10 +6,11 @@ use crate::kind::NumberKind;
 
 const TOP: u32 = 999_999;
 
+// Each kind names its own rest cell, though all three are 0: a kind is read and changed alone.
 const REST: u32 = 0;
 
 // The kind of pulse counts. It holds nothing.
-#[derive(Clone, Copy)]
+#[derive(Clone, Copy, Debug, PartialEq, Eq)]
 pub struct PulseCount;
 
 impl NumberKind for PulseCount {
@@ -21,6 +22,7 @@ impl NumberKind for PulseCount {
         cell <= TOP
     }
 
+    // The frame of plus and minus stands in each kind: tried as one generic function, but its call leads back into this block.
     fn plus(&self, a: u32, b: u32) -> u32 {
         if self.lawful(a) && self.lawful(b) {
             (a + b).min(TOP)

@@ -9,7 +9,7 @@ const ROUND: u32 = 10_000;
 const REST: u32 = 0;
 
 // The kind of trip rings. It holds nothing.
-#[derive(Clone, Copy)]
+#[derive(Clone, Copy, Debug, PartialEq, Eq)]
 pub struct TripRing;
 
 impl NumberKind for TripRing {
@@ -37,6 +37,7 @@ impl NumberKind for TripRing {
         }
     }
 
+    // As with pulse counts: one line in each kind is shorter than a function of both with the last cell as a parameter.
     fn atmost(&self, a: u32, b: u32) -> bool {
         self.lawful(a) && self.lawful(b) && a <= b
     }

@@ -12,7 +12,7 @@ const MOST: i32 = 9_999;
 const REST: u32 = 0;
 
 // The kind of signed tenths. It holds nothing.
-#[derive(Clone, Copy)]
+#[derive(Clone, Copy, Debug, PartialEq, Eq)]
 pub struct SignedTenths;
 
 // The cell of a value held to the ends.
@@ -28,8 +28,7 @@ impl NumberKind for SignedTenths {
     ghost sound = { λ _. tenths_sound };
 
     fn lawful(&self, cell: u32) -> bool {
-        let value = cell.cast_signed();
-        LEAST <= value && value <= MOST
+        (LEAST..=MOST).contains(&cell.cast_signed())
     }
 
     fn plus(&self, a: u32, b: u32) -> u32 {
@@ -48,6 +47,7 @@ impl NumberKind for SignedTenths {
         }
     }
 
+    // As in the other kinds, but by the signed readings.
     fn atmost(&self, a: u32, b: u32) -> bool {
         self.lawful(a) && self.lawful(b) && a.cast_signed() <= b.cast_signed()
     }

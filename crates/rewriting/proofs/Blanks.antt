@@ -6,7 +6,6 @@ use Rattle.terms.specs.Roots.{head_args, fn_args}
 use Rattle.terms.specs.Positions.{part, part_of, graft, graft_in}
 use Rattle.rewriting.specs.Trees.{variables_from, unused, due, due_in, call_of, refined}
 use Rattle.rewriting.specs.FixedTree.{same_head, same_fn, alike, all_alike}
-use Rattle.rewriting.proofs.Basics.{zero_one, con_var, fun_var}
 
 -- variables of these sorts, in a row
 abbrev pub fresh : List ℕ → Terms
@@ -52,55 +51,49 @@ module _ (S : Signature) where
   -- a variable at a position without names is one with a name, of that sort
   mutual
     pub blank_variable : (t : Term) (j : ℕ) (i : ℕ) (p : List ℕ) {k : ℕ} → part (blank t j) (i ∷ p) ≡ Some (var k) → ((x : ℕ) × (part t (i ∷ p) ≡ Some (var x))) × (due S t (i ∷ p) ≡ Some k)
-    blank_variable (var v) j i p e = absurd (zero_one (cc))
+    blank_variable (var v) j i p e = absurd (cc)
     blank_variable (con c ts) j i p e = blanks_variable ts (head_args S c) i p e
     blank_variable (fun f ts) j i p e = blanks_variable ts (fn_args S f) i p e
 
     blanks_variable : (ts : Terms) (ks : List ℕ) (i : ℕ) (p : List ℕ) {k : ℕ} → part_of (blanks ts ks) i p ≡ Some (var k)
         → ((x : ℕ) × (part_of ts i p ≡ Some (var x))) × (due_in S ts ks i p ≡ Some k)
-    blanks_variable nil ks i p e = absurd (zero_one (cc))
-    blanks_variable (t ▸ ts) [] i p e = absurd (zero_one (cc))
-    blanks_variable (t ▸ ts) (j ∷ ks) zero p e = absurd (zero_one (cc))
     blanks_variable (t ▸ ts) (j ∷ ks) (suc zero) [] {k} e = go t e
       where
         go : (u : Term) → part (blank u j) [] ≡ Some (var k) → ((x : ℕ) × (part u [] ≡ Some (var x))) × (Some j ≡ Some k)
         go (var x) d = ((x, refl), let q : j ≡ k = cc in ap Some q)
-        go (con c us) d = absurd (con_var d)
-        go (fun f us) d = absurd (fun_var d)
+        go (con c us) d = absurd (cc)
+        go (fun f us) d = absurd (cc)
     blanks_variable (t ▸ ts) (j ∷ ks) (suc zero) (l ∷ p) e = blank_variable t j l p e
     blanks_variable (t ▸ ts) (j ∷ ks) (suc (suc i)) p e = blanks_variable ts ks (suc i) p e
+    blanks_variable ts ks i p e = absurd (cc)
 
   -- and the other way round
   mutual
     pub variable_blank : (t : Term) (j : ℕ) (p : List ℕ) {x : ℕ} → Formed t → part t p ≡ Some (var x) → (k : ℕ) × (part (blank t j) p ≡ Some (var k))
     variable_blank (var v) j [] h e = (j, refl)
-    variable_blank (var v) j (i ∷ p) h e = absurd (zero_one (cc))
-    variable_blank (con c ts) j [] h e = absurd (con_var e)
     variable_blank (con c ts) j (i ∷ p) h e = variables_blank ts (head_args S c) i p h e
-    variable_blank (fun f ts) j [] h e = absurd (fun_var e)
     variable_blank (fun f ts) j (i ∷ p) h e = variables_blank ts (fn_args S f) i p h e
+    variable_blank t j p h e = absurd (cc)
 
     variables_blank : (ts : Terms) (ks : List ℕ) (i : ℕ) (p : List ℕ) {x : ℕ} → Formeds ts ks → part_of ts i p ≡ Some (var x) → (k : ℕ) × (part_of (blanks ts ks) i p ≡ Some (var k))
-    variables_blank nil ks i p h e = absurd (zero_one (cc))
     variables_blank (t ▸ ts) [] i p h e = absurd h
-    variables_blank (t ▸ ts) (j ∷ ks) zero p h e = absurd (zero_one (cc))
     variables_blank (t ▸ ts) (j ∷ ks) (suc zero) p h e = variable_blank t j p h.0 e
     variables_blank (t ▸ ts) (j ∷ ks) (suc (suc i)) p h e = variables_blank ts ks (suc i) p h.1 e
+    variables_blank ts ks i p h e = absurd (cc)
 
   -- grafts
   mutual
     blank_graft : (t : Term) (j : ℕ) (p : List ℕ) {x : ℕ} (ρ ν : Term) → ((k : ℕ) → blank ρ k ≡ ν) → part t p ≡ Some (var x) → blank (graft t p ρ) j ≡ graft (blank t j) p ν
     blank_graft (var v) j [] ρ ν h e = h j
     blank_graft (var v) j (i ∷ p) ρ ν h e = refl
-    blank_graft (con c ts) j [] ρ ν h e = absurd (con_var e)
     blank_graft (con c ts) j (i ∷ p) ρ ν h e = ap (con c) (blanks_graft ts (head_args S c) i p ρ ν h e)
-    blank_graft (fun f ts) j [] ρ ν h e = absurd (fun_var e)
     blank_graft (fun f ts) j (i ∷ p) ρ ν h e = ap (fun f) (blanks_graft ts (fn_args S f) i p ρ ν h e)
+    blank_graft t j p ρ ν h e = absurd (cc)
 
     blanks_graft : (ts : Terms) (ks : List ℕ) (i : ℕ) (p : List ℕ) {x : ℕ} (ρ ν : Term) → ((k : ℕ) → blank ρ k ≡ ν) → part_of ts i p ≡ Some (var x)
         → blanks (graft_in ts i p ρ) ks ≡ graft_in (blanks ts ks) i p ν
     blanks_graft nil ks i p ρ ν h e = refl
-    blanks_graft (t ▸ ts) ks zero p ρ ν h e = absurd (zero_one (cc))
+    blanks_graft (t ▸ ts) ks zero p ρ ν h e = absurd (cc)
     blanks_graft (t ▸ ts) [] (suc zero) p ρ ν h e = refl
     blanks_graft (t ▸ ts) [] (suc (suc i)) p ρ ν h e = refl
     blanks_graft (t ▸ ts) (k ∷ ks) (suc zero) p ρ ν h e = ap (λ (u : Term). u ▸ blanks ts ks) (blank_graft t k p ρ ν h e)

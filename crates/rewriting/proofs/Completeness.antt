@@ -1,23 +1,22 @@
 -- Whether the fixed tree is complete can be told from its children's constructors.
-use Rattle.std.proofs.Common.{◌≡◌, ℕ, zero, suc, ◌+◌, ◌<◌, ◌≤◌, Bool, true, false, not, ◌&&◌, ◌||◌, eqb, ◌⊎◌, ◌↔◌, List, [], ◌∷◌, length, Some, None, Option, sym, refl, ap, ◌∙◌, subst, inl, inr, arith}
+use Rattle.std.proofs.Common.{◌≡◌, ℕ, zero, suc, ◌+◌, ◌≤◌, Bool, true, false, not, ◌&&◌, ◌||◌, eqb, ◌↔◌, List, [], ◌∷◌, length, Some, Option, sym, refl, ap, ◌∙◌, subst, arith, eqb-true, eq-eqb, inl, inr}
 use mathlib.Core.List.Memᴰ
 use mathlib.Core.List.{Memᴰ}
 use Rattle.std.specs.List.{slice_get}
-use Rattle.std.proofs.lemmas.Bool.{and_from, or_cases, or_left, or_right, eq-eqb}
+use Rattle.std.proofs.lemmas.Bool.{and_from, and_parts}
+use Rattle.std.proofs.lemmas.Option.{slice_get_within}
 use Rattle.terms.specs.Terms.{Head, cell, symbol, Term}
-use Rattle.terms.specs.Options.{mapped}
 use Rattle.terms.specs.Signatures.{Declaration, Signature}
 use Rattle.terms.specs.Roots.{is_constructor, head, Stands}
 use Rattle.terms.specs.Sorting.{sort_in, head_sort}
-use Rattle.rewriting.specs.Substitutions.{variable_positions}
 use Rattle.rewriting.specs.Rules.{Rule, rules_of, Proper}
 use Rattle.rewriting.specs.Trees.{Node, at_rule, branch, Nodes, no_child, child, heads, SomeChild, ConstructorOf, call_of, refined, Tree, Children, Complete, AllComplete}
-use Rattle.rewriting.specs.FixedTree.{same_head, constructor_at, has_at, first_shared, constructors_at, children, sole_variant, or_else, build, enough}
+use Rattle.rewriting.specs.FixedTree.{same_head, constructor_at, has_at, constructors_at, children, build, enough}
 use Rattle.rewriting.specs.Completeness.{is_among, makes, is_met, all_met, covers, is_complete, are_complete}
 use Rattle.rewriting.specs.Promises.{TellsComplete}
-use Rattle.rewriting.proofs.Basics.{zero_one, onward_some, mapped_some, and_true, eqb_true, same_head_same, same_head_true}
-use Rattle.rewriting.proofs.Lists.{kept_mem}
-use Rattle.rewriting.proofs.Building.{occurs, sole_is, subtree, branched}
+use Rattle.rewriting.proofs.Basics.{same_head_same, same_head_true}
+use Rattle.rewriting.proofs.Lists.{kept_mem, any_mem, mem_any}
+use Rattle.rewriting.proofs.Building.{occurs, subtree, children_is, build_is}
 use Rattle.rewriting.proofs.Exactness.{fixed_tree_exact}
 
 -- the constructors that have a child are symbols, all the way down
@@ -46,50 +45,37 @@ children_symbols : (tree : Head → Option Node) (cs : List Head) (ns : Nodes) �
     → ((c : Head) → Memᴰ c cs → (t : Node) → tree c ≡ Some t → IsSymbol c × SymbolsOnly t) → AllSymbols ns
 children_symbols tree [] ns e h = let q : no_child ≡ ns = cc in subst AllSymbols q tt
 children_symbols tree (c ∷ cs) ns e h =
-    let x = onward_some (tree c) (λ n. mapped (child c n) (children tree cs)) e in
-    let y = mapped_some (child c x.0) (children tree cs) x.2 in
-    let z = h c (Memᴰ.head refl) x.0 x.1 in
-    subst AllSymbols y.2 (z.0, z.1, children_symbols tree cs y.0 y.1 (λ b m. h b (Memᴰ.tail m)))
+    let x = children_is tree c cs e in
+    let z = h c (Memᴰ.head refl) x.0 x.2 in
+    subst AllSymbols x.4 (z.0, z.1, children_symbols tree cs x.1 x.3 (λ b m. h b (Memᴰ.tail m)))
 
 build_symbols : (S : Signature) (n : ℕ) (π : Term) (rs : List Rule) (t : Node) → NoCells rs → build S n π rs ≡ Some t → SymbolsOnly t
-build_symbols S zero π rs t f e = absurd (zero_one (cc))
-build_symbols S (suc n) π rs t f e = go (sole_variant π rs) refl e (λ ρ qs s. build_symbols S n ρ qs s)
-  where
-    go : (o : Option Node) → sole_variant π rs ≡ o → or_else o (branched S n π rs) ≡ Some t
-        → ((ρ : Term) (qs : List Rule) (s : Node) → NoCells qs → build S n ρ qs ≡ Some s → SymbolsOnly s) → SymbolsOnly t
-    go (Some s) q h ih = let i : s ≡ t = cc in rw (sole_is π rs (q ∙ ap Some i)).3 tt
-    go None q h ih =
-        let x = onward_some (first_shared (variable_positions π) rs) (λ p. mapped (branch p) (children (subtree S n π rs p) (constructors_at p rs))) h in
-        let p = x.0 in
-        let y = mapped_some (branch p) (children (subtree S n π rs p) (constructors_at p rs)) x.2 in
-        rw (← y.2) (children_symbols (subtree S n π rs p) (constructors_at p rs) y.0 y.1
-        (λ c m s b.
-        let u = occurs p rs m in (
-          no_cell c (λ k d. f u.0 u.1 p k (u.2 ∙ ap Some d)),
-          ih (refined S π p c) _ s (λ r l. f r (kept_mem (has_at p c) rs l).0) b,
-        )))
+build_symbols S zero π rs t f e = absurd (cc)
+build_symbols S (suc n) π rs t f e =
+    elim (build_is S n π rs e) [
+      | inl x ↦ rw x.3 tt
+      | inr x ↦
+          let p = x.0 in
+          rw x.4 (children_symbols (subtree S n π rs p) (constructors_at p rs) x.1 x.3
+          (λ c m s b.
+          let u = occurs p rs m in (
+            no_cell c (λ k d. f u.0 u.1 p k (u.2 ∙ ap Some d)),
+            build_symbols S n (refined S π p c) _ s (λ r l. f r (kept_mem (has_at p c) rs l).0) b,
+          )))
+    ]
 
 -- the test for a member
 among_mem : (c : Head) (ds : List Head) → is_among c ds ≡ true → Memᴰ c ds
-among_mem c [] e = absurd (zero_one (cc))
-among_mem c (d ∷ ds) e =
-    elim (or_cases (same_head c d) (is_among c ds) e) [ inl h ↦ Memᴰ.head (same_head_true c d h) | inr h ↦ Memᴰ.tail (among_mem c ds h) ]
+among_mem c ds e = let x = any_mem (same_head c) ds e in Memᴰ.cast (same_head_true c x.0 x.2) x.1
 
 mem_among : {c : Head} {ds : List Head} → Memᴰ c ds → is_among c ds ≡ true
-mem_among {c} (Memᴰ.head {x = d} {xs = ds} e) = or_left (same_head c d) (is_among c ds) (ap (same_head c) (sym e) ∙ same_head_same c)
-mem_among {c} (Memᴰ.tail {x = d} {xs = ds} m) = or_right (same_head c d) (is_among c ds) (mem_among m)
-
--- a place where something stands is below the length
-nth_below : {A : Type 0} (xs : List A) (i : ℕ) {x : A} → slice_get xs i ≡ Some x → i < length xs
-nth_below [] i e = absurd (zero_one (cc))
-nth_below (y ∷ xs) zero e = omega arith
-nth_below (y ∷ xs) (suc i) e = let l = nth_below xs i e in omega arith
+mem_among {c} m = mem_any (same_head c) m (same_head_same c)
 
 -- the test for a consequence
 implied : (a b c : Bool) → (not (a && b) || c) ≡ true → a ≡ true → b ≡ true → c ≡ true
 implied true true c h d e = h
-implied true false c h d e = absurd (zero_one (cc))
-implied false b c h d e = absurd (zero_one (cc))
+implied true false c h d e = absurd (cc)
+implied false b c h d e = absurd (cc)
 
 implies : (a b c : Bool) → (a ≡ true → b ≡ true → c ≡ true) → (not (a && b) || c) ≡ true
 implies true true c h = h refl refl
@@ -99,26 +85,19 @@ implies false b c h = refl
 module _ (S : Signature) where
   -- the test for a constructor of the sort k
   makes_mem : (k : ℕ) (cs : List Head) → makes S k cs ≡ true → (c : Head) × Memᴰ c cs × (head_sort S c ≡ k)
-  makes_mem k [] e = absurd (zero_one (cc))
-  makes_mem k (d ∷ ds) e = go (or_cases (eqb (head_sort S d) k) (makes S k ds) e) (makes_mem k ds)
-    where
-      go : (eqb (head_sort S d) k ≡ true) ⊎ (makes S k ds ≡ true) → (makes S k ds ≡ true → (c : Head) × Memᴰ c ds × (head_sort S c ≡ k))
-          → (c : Head) × Memᴰ c (d ∷ ds) × (head_sort S c ≡ k)
-      go (inl h) ih = (d, Memᴰ.head refl, eqb_true (head_sort S d) k h)
-      go (inr h) ih = let x = ih h in (x.0, Memᴰ.tail x.1, x.2)
+  makes_mem k cs e = let x = any_mem (λ c. eqb (head_sort S c) k) cs e in (x.0, x.1, eqb-true (head_sort S x.0) k x.2)
 
   mem_makes : (k : ℕ) {c : Head} {cs : List Head} → Memᴰ c cs → head_sort S c ≡ k → makes S k cs ≡ true
-  mem_makes k (Memᴰ.head {x = d} {xs = ds} h) e = or_left (eqb (head_sort S d) k) (makes S k ds) (eq-eqb (head_sort S d) k (ap (head_sort S) (sym h) ∙ e))
-  mem_makes k (Memᴰ.tail {x = d} {xs = ds} m) e = or_right (eqb (head_sort S d) k) (makes S k ds) (mem_makes k m e)
+  mem_makes k {c} m e = mem_any (λ d. eqb (head_sort S d) k) m (eq-eqb (head_sort S c) k e)
 
   -- the test of each declaration, at its place
   met_at : (cs : List Head) (s : ℕ) (ds : List Declaration) → all_met S cs s ds ≡ true → (i j : ℕ) {d : Declaration} → slice_get ds i ≡ Some d → j ≡ s + i → is_met S cs j d ≡ true
-  met_at cs s [] h i j e q = absurd (zero_one (cc))
+  met_at cs s [] h i j e q = absurd (cc)
   met_at cs s (x ∷ ds) h zero j {d} e q =
       let a : j ≡ s = omega arith in
       let b : d ≡ x = cc in
-      rw (a, b) (and_true (is_met S cs s x) (all_met S cs (suc s) ds) h).0
-  met_at cs s (x ∷ ds) h (suc i) j e q = met_at cs (suc s) ds (and_true (is_met S cs s x) (all_met S cs (suc s) ds) h).1 i j e (omega arith)
+      rw (a, b) (and_parts (is_met S cs s x) (all_met S cs (suc s) ds) h).0
+  met_at cs s (x ∷ ds) h (suc i) j e q = met_at cs (suc s) ds (and_parts (is_met S cs s x) (all_met S cs (suc s) ds) h).1 i j e (omega arith)
 
   all_met_from : (cs : List Head) (s : ℕ) (ds : List Declaration) → ((i j : ℕ) (d : Declaration) → slice_get ds i ≡ Some d → j ≡ s + i → is_met S cs j d ≡ true) → all_met S cs s ds ≡ true
   all_met_from cs s [] h = refl
@@ -154,7 +133,7 @@ module _ (S : Signature) where
       met i j d e q r h =
           let x = makes_mem d.sort cs h in
           let a : slice_get S.symbols j ≡ Some d = (let b : j ≡ i = omega arith in rw b e) in
-          let l = nth_below S.symbols j a in
+          let l = slice_get_within S.symbols j d a in
           mem_among (g (symbol j) ((d, a, r, omega arith), (f x.0 x.1).1.1 ∙ x.2 ∙ sym (ap sort_in a)))
 
   -- the constructors of a branch in a tree
@@ -176,7 +155,7 @@ module _ (S : Signature) where
           let f = symbol_heads ns p t.0 π t.4 y in
           let a = all_tell ns p t.0 π t.4 y in (
             (λ e.
-                let x = and_true (covers S (heads ns)) (are_complete S ns) e in (
+                let x = and_parts (covers S (heads ns)) (are_complete S ns) e in (
                   (λ c k v o.
                       let i : k ≡ t.0 = (let q = v.1 in let z = t.1.1 in cc) in
                       covers_full P (heads ns) t.0 (some_head ns t.2).1 f x.0 c (subst (ConstructorOf S c) i o)),
@@ -190,7 +169,7 @@ module _ (S : Signature) where
       all_tell (child c n ns) p k π t y =
           let a = tells n (refined S π p c) t.1 y.1 in
           let b = all_tell ns p k π t.2 y.2 in (
-            (λ e. let x = and_true (is_complete S n) (are_complete S ns) e in (a.0 x.0, b.0 x.1)),
+            (λ e. let x = and_parts (is_complete S n) (are_complete S ns) e in (a.0 x.0, b.0 x.1)),
             (λ g. and_from (is_complete S n) (are_complete S ns) (a.1 g.0) (b.1 g.1)),
           )
 

@@ -2,7 +2,7 @@
 use Rattle.std.proofs.Common.{◌≡◌, ℕ, zero, suc, Bool, true, false, List, [], ◌∷◌, Some, Option, sym, refl, ◌∙◌, subst, arith}
 use mathlib.Core.List.Memᴰ
 use mathlib.Core.List.{Memᴰ}
-use Rattle.std.specs.List.{slice_get}
+use Rattle.std.specs.List.{slice_get, AllByRecursion}
 use Rattle.numbers.specs.Meaning.{Meaning}
 use Rattle.terms.specs.Terms.{Head, cell, symbol, own, Term, var, fun, nil, ◌▸◌}
 use Rattle.terms.specs.Signatures.{Declaration, Signature, built_in}
@@ -14,8 +14,7 @@ use Rattle.rewriting.specs.Steps.{truth, StepAt, Steps, stay, ◌then◌}
 use Rattle.rewriting.specs.Trees.{Node, ConstructorOf, TreeFor, CompleteFor}
 use Rattle.rewriting.specs.Strategy.{Move, φ}
 use Rattle.rewriting.specs.Promises.{HasTrees, HasCompleteTrees, Exact}
-use Rattle.rewriting.specs.Examples.{levels, four_more, meet_1, meet_2, meet_3, meet_book, meet_tree, either_book, half_book, half_tree, half_1, half_2, either_1, either_2, either_3, level_zero, up, meet, half, true_term, false_term, Worked, plain, Judged, MeetHolds}
-use Rattle.rewriting.proofs.Basics.{zero_one}
+use Rattle.rewriting.specs.Examples.{levels, four_more, meet_1, meet_2, meet_3, meet_book, meet_tree, either_book, half_book, half_tree, half_1, half_2, either_1, either_2, either_3, level_zero, up, meet, half, true_term, false_term, plain, Judged, MeetHolds}
 use Rattle.rewriting.proofs.Occurrences.{different_linear}
 use Rattle.rewriting.proofs.Sorts.{steps_keep_sorts}
 use Rattle.rewriting.proofs.Exactness.{fixed_tree_exact}
@@ -23,27 +22,8 @@ use Rattle.rewriting.proofs.Normalising.{normalises, one_value}
 use Rattle.rewriting.proofs.Stepping.{moves_are_steps}
 use Rattle.rewriting.proofs.Progressing.{progress}
 
-pub worked : Worked
-worked = record {
-  meet_built = refl;
-  pick_tree = refl;
-  either_not = refl;
-  half_built = refl;
-  inner_first = refl;
-  root_then = refl;
-  under_up = refl;
-  asked_for = refl;
-  adds = refl;
-  past_loop = refl;
-  loops = refl;
-}
-
 -- what holds of each of some rules
-abbrev All : (Rule → Type 0) → List Rule → Type 0
-All P [] = Unit {0}
-All P (r ∷ rs) = P r × All P rs
-
-all : (P : Rule → Type 0) (rs : List Rule) → All P rs → (r : Rule) → Memᴰ r rs → P r
+all : (P : Rule → Type 0) (rs : List Rule) → AllByRecursion P rs → (r : Rule) → Memᴰ r rs → P r
 all P [] h r m = absurd (Memᴰ.not-nil m)
 all P (q ∷ rs) h r (Memᴰ.head e) = subst P (sym e) h.0
 all P (q ∷ rs) h r (Memᴰ.tail m) = all P rs h.1 r m
@@ -56,15 +36,14 @@ each_of k x = Some k
 abbrev Fine : Signature → Rule → Type 0
 Fine S r = SortCorrect S r × Different (variables (left_side r))
 
-fine : (S : Signature) (rs : List Rule) → All (Fine S) rs → (r : Rule) → Memᴰ r rs → SortCorrect S r × Linear (left_side r)
+fine : (S : Signature) (rs : List Rule) → AllByRecursion (Fine S) rs → (r : Rule) → Memᴰ r rs → SortCorrect S r × Linear (left_side r)
 fine S rs h r m = let x = all (Fine S) rs h r m in (x.0, different_linear (left_side r) x.1)
 
 none_on_right : (xs : List ℕ) (x : ℕ) → Memᴰ x [] → Memᴰ x xs
 none_on_right xs x m = absurd (Memᴰ.not-nil m)
 
 zero_not_one : Memᴰ {A = ℕ} 0 (1 ∷ []) → ⊥
-zero_not_one (Memᴰ.head e) = zero_one e
-zero_not_one (Memᴰ.tail m) = Memᴰ.not-nil m
+zero_not_one m = let e = Memᴰ.eq_of_singleton m in omega arith
 
 module _ (ds : List Declaration) (e : Environment) where
   zero_sorted : Sorted (levels ds) e level_zero 2
@@ -86,7 +65,7 @@ half_sorted e t h = (((_, refl, refl, omega arith), refl), refl, (h, tt))
 either_sorted : (e : Environment) (t u : Term) → Sorted (levels four_more) e t 1 → Sorted (levels four_more) e u 1 → Sorted (levels four_more) e (fun (own 9) (t ▸ u ▸ nil)) 1
 either_sorted e t u g h = (((_, refl, refl, omega arith), refl), refl, (g, (h, tt)))
 
-meet_fine : All (Fine (levels [])) (meet_1 ∷ meet_2 ∷ meet_3 ∷ [])
+meet_fine : AllByRecursion (Fine (levels [])) (meet_1 ∷ meet_2 ∷ meet_3 ∷ [])
 meet_fine =
     let e : Environment = each_of 2 in
     let z = zero_sorted [] e in
@@ -116,7 +95,7 @@ meet_fine =
       ),
     )
 
-half_fine : All (Fine (levels four_more)) (half_1 ∷ half_2 ∷ [])
+half_fine : AllByRecursion (Fine (levels four_more)) (half_1 ∷ half_2 ∷ [])
 half_fine =
     let e : Environment = each_of 2 in
     let z = zero_sorted four_more e in
@@ -136,7 +115,7 @@ half_fine =
       ),
     )
 
-either_fine : All (Fine (levels four_more)) (either_1 ∷ either_2 ∷ either_3 ∷ [])
+either_fine : AllByRecursion (Fine (levels four_more)) (either_1 ∷ either_2 ∷ either_3 ∷ [])
 either_fine =
     let e : Environment = each_of 1 in
     let y = truth_sorted four_more e true in
@@ -170,8 +149,8 @@ level_constructor (suc (suc (suc zero))) k e h = let d : ◌≡◌ {A = ℕ} 2 1
 level_constructor (suc (suc (suc (suc zero)))) k e h = let d : ◌≡◌ {A = ℕ} 2 1 = e ∙ h.1 in absurd (omega arith)
 level_constructor (suc (suc (suc (suc (suc zero))))) k e h = Memᴰ.head refl
 level_constructor (suc (suc (suc (suc (suc (suc zero)))))) k e h = Memᴰ.tail (Memᴰ.head refl)
-level_constructor (suc (suc (suc (suc (suc (suc (suc zero))))))) k e h = absurd (zero_one (let d = h.0.1 in let b = h.0.2 in cc))
-level_constructor (suc (suc (suc (suc (suc (suc (suc (suc s)))))))) k e h = absurd (zero_one (let d = h.0.1 in cc))
+level_constructor (suc (suc (suc (suc (suc (suc (suc zero))))))) k e h = absurd (let d = h.0.1 in let b = h.0.2 in cc)
+level_constructor (suc (suc (suc (suc (suc (suc (suc (suc s)))))))) k e h = absurd (let d = h.0.1 in cc)
 
 level_head : (c : Head) (k : ℕ) → ◌≡◌ {A = Option ℕ} (Some 2) (Some k) → ConstructorOf (levels []) c k → Memᴰ c (symbol 5 ∷ symbol 6 ∷ [])
 level_head (cell n) k e h = let d : 2 ≡ k = cc in let b : ◌≡◌ {A = ℕ} 2 0 = d ∙ h.1 in absurd (omega arith)
@@ -190,7 +169,7 @@ half_gap h = five_six (h.1.1.0.0 (symbol 5) 2 ((_, refl), refl) ((_, refl, refl,
 pub judged : Judged
 judged = record {
   meet_complete = (meet_exact.is_tree meet_tree refl, meet_complete);
-  either_none = λ n t. zero_one (let x = either_exact.some_tree.0 (n, t) in let e = x.1 in cc);
+  either_none = λ n t. (let x = either_exact.some_tree.0 (n, t) in let e = x.1 in cc);
   half_tree_is = half_exact.is_tree half_tree refl;
   half_incomplete = λ n t c.
       let x = half_exact.some_complete.0 (n, t, c) in
@@ -210,15 +189,15 @@ meet_trees : HasTrees meet_book
 meet_trees r m = subst (λ (f : ℕ). (n : Node) × TreeFor meet_book f n) (meet_function r m) (meet_tree, meet_exact.is_tree meet_tree refl)
 
 meet_complete_trees : HasCompleteTrees meet_book
-meet_complete_trees zero h = absurd (zero_one (let d = h.1 in cc))
-meet_complete_trees (suc zero) h = absurd (zero_one (let d = h.1 in cc))
-meet_complete_trees (suc (suc zero)) h = absurd (zero_one (let d = h.1 in cc))
-meet_complete_trees (suc (suc (suc zero))) h = absurd (zero_one (let d = h.0.1 in let b = h.0.2 in cc))
-meet_complete_trees (suc (suc (suc (suc zero)))) h = absurd (zero_one (let d = h.0.1 in let b = h.0.2 in cc))
-meet_complete_trees (suc (suc (suc (suc (suc zero))))) h = absurd (zero_one (let d = h.0.1 in let b = h.0.2 in cc))
-meet_complete_trees (suc (suc (suc (suc (suc (suc zero)))))) h = absurd (zero_one (let d = h.0.1 in let b = h.0.2 in cc))
+meet_complete_trees zero h = absurd (let d = h.1 in cc)
+meet_complete_trees (suc zero) h = absurd (let d = h.1 in cc)
+meet_complete_trees (suc (suc zero)) h = absurd (let d = h.1 in cc)
+meet_complete_trees (suc (suc (suc zero))) h = absurd (let d = h.0.1 in let b = h.0.2 in cc)
+meet_complete_trees (suc (suc (suc (suc zero)))) h = absurd (let d = h.0.1 in let b = h.0.2 in cc)
+meet_complete_trees (suc (suc (suc (suc (suc zero))))) h = absurd (let d = h.0.1 in let b = h.0.2 in cc)
+meet_complete_trees (suc (suc (suc (suc (suc (suc zero)))))) h = absurd (let d = h.0.1 in let b = h.0.2 in cc)
 meet_complete_trees (suc (suc (suc (suc (suc (suc (suc zero))))))) h = (meet_tree, meet_exact.is_tree meet_tree refl, meet_complete)
-meet_complete_trees (suc (suc (suc (suc (suc (suc (suc (suc f)))))))) h = absurd (zero_one (let d = h.0.1 in cc))
+meet_complete_trees (suc (suc (suc (suc (suc (suc (suc (suc f)))))))) h = absurd (let d = h.0.1 in cc)
 
 meet_built_in : (s : ℕ) (d : Declaration) → slice_get built_in.symbols s ≡ Some d → slice_get (levels []).symbols s ≡ Some d
 meet_built_in zero d e = e
@@ -226,18 +205,18 @@ meet_built_in (suc zero) d e = e
 meet_built_in (suc (suc zero)) d e = e
 meet_built_in (suc (suc (suc zero))) d e = e
 meet_built_in (suc (suc (suc (suc zero)))) d e = e
-meet_built_in (suc (suc (suc (suc (suc s))))) d e = absurd (zero_one (cc))
+meet_built_in (suc (suc (suc (suc (suc s))))) d e = absurd (cc)
 
 meet_cells : (s : ℕ) → Stands (levels []) (head (symbol s)) → head_sort (levels []) (symbol s) ≡ 0 → ⊥
-meet_cells zero h e = zero_one (let d = h.1 in let b = h.2 in cc)
-meet_cells (suc zero) h e = zero_one (let d = h.1 in let b = h.2 in cc)
+meet_cells zero h e = let d = h.1 in let b = h.2 in cc
+meet_cells (suc zero) h e = let d = h.1 in let b = h.2 in cc
 meet_cells (suc (suc zero)) h e = omega arith
 meet_cells (suc (suc (suc zero))) h e = omega arith
 meet_cells (suc (suc (suc (suc zero)))) h e = omega arith
 meet_cells (suc (suc (suc (suc (suc zero))))) h e = omega arith
 meet_cells (suc (suc (suc (suc (suc (suc zero)))))) h e = omega arith
 meet_cells (suc (suc (suc (suc (suc (suc (suc zero))))))) h e = omega arith
-meet_cells (suc (suc (suc (suc (suc (suc (suc (suc s)))))))) h e = zero_one (let d = h.1 in cc)
+meet_cells (suc (suc (suc (suc (suc (suc (suc (suc s)))))))) h e = let d = h.1 in cc
 
 meet_proper : Proper (levels [])
 meet_proper = record { built_in_first = meet_built_in; cells_alone = meet_cells }
@@ -255,8 +234,8 @@ two_steps : Steps plain meet_book (meet (meet level_zero level_zero) (up level_z
 two_steps =
     let z = zero_sorted [] closed in
     let u = up_sorted [] closed level_zero z in
-    (_, _, meet_steps plain closed (meet (meet level_zero level_zero) (up level_zero)) 2 (meet_sorted [] closed (meet level_zero level_zero) (up level_zero) (meet_sorted [] closed level_zero level_zero z z) u) _ worked.inner_first)
-    then (_, _, meet_steps plain closed (meet level_zero (up level_zero)) 2 (meet_sorted [] closed level_zero (up level_zero) z u) _ worked.root_then) then stay
+    (_, _, meet_steps plain closed (meet (meet level_zero level_zero) (up level_zero)) 2 (meet_sorted [] closed (meet level_zero level_zero) (up level_zero) (meet_sorted [] closed level_zero level_zero z z) u) _ refl)
+    then (_, _, meet_steps plain closed (meet level_zero (up level_zero)) 2 (meet_sorted [] closed level_zero (up level_zero) z u) _ refl) then stay
 
 pub meet_holds : MeetHolds
 meet_holds = record {

@@ -1,23 +1,23 @@
 -- Grown by open positions, the fixed tree comes out, within its bounds.
-use Rattle.std.proofs.Common.{◌≡◌, ℕ, zero, suc, ◌+◌, ◌<◌, ◌≤◌, List, [], ◌∷◌, length, Some, None, Option, sym, refl, ap, ◌∙◌, subst, ap₂, arith}
+use Rattle.std.proofs.Common.{◌≡◌, ℕ, zero, suc, ◌+◌, ◌<◌, ◌≤◌, List, [], ◌∷◌, length, Some, None, Option, sym, refl, ap, ◌∙◌, subst, ap₂, arith, option_map, filter}
 use mathlib.Core.List.{Memᴰ}
+use Rattle.std.specs.Option.{option_or}
 use Rattle.terms.specs.Terms.{Head, own, Term, var, con, fun, Terms, nil, ◌▸◌}
-use Rattle.terms.specs.Options.{onward, mapped}
+use Rattle.terms.specs.Options.{onward}
 use Rattle.terms.specs.Signatures.{Signature}
 use Rattle.terms.specs.Roots.{head_args, fn_args}
-use Rattle.terms.specs.Sorting.{Sorted, fn_sort}
+use Rattle.terms.specs.Sorting.{fn_sort}
 use Rattle.rewriting.specs.Substitutions.{variables, variable_positions}
-use Rattle.rewriting.specs.Rules.{Rule, left_side, Book, kept, rules_of}
+use Rattle.rewriting.specs.Rules.{Rule, left_side, Book, rules_of}
 use Rattle.rewriting.specs.Trees.{branch, variables_from, unused, call_of, refined}
-use Rattle.rewriting.specs.FixedTree.{has_at, first_shared, constructors_at, children, or_else, build, size}
+use Rattle.rewriting.specs.FixedTree.{has_at, first_shared, constructors_at, children, build, size}
 use Rattle.rewriting.specs.Growing.{opened_under, grow, open_call, Reached, at_call, in_branch, paid, paid_under, Within}
 use Rattle.rewriting.specs.Promises.{Ruled, NoLonger, GrowsFixedTree}
-use Rattle.rewriting.proofs.Lists.{mem_kept, kept_mem}
+use Rattle.rewriting.proofs.Lists.{kept_mem}
 use Rattle.rewriting.proofs.Shapes.{Fit, fit_var, fit_con, fit_fun, Fits, fit_more, fit_size, size_graft}
-use Rattle.rewriting.proofs.Blanks.{blank, blanks, bare, Formed, Formeds, formed_refined, formed_call}
-use Rattle.rewriting.proofs.Deals.{constructor_has, as_sort, graft_sorted, AllReady, ready_constructor, ready_child}
-use Rattle.rewriting.proofs.Building.{position_named, bare_position, first_is, occurs, different_constructors, subtree, child_bare}
-use Rattle.rewriting.proofs.Exactness.{ready, pattern_sorted, unnamed}
+use Rattle.rewriting.proofs.Blanks.{blank, blanks, Formed, Formeds}
+use Rattle.rewriting.proofs.Building.{position_named, first_is, different_constructors, subtree, Pattern, pattern_child}
+use Rattle.rewriting.proofs.Exactness.{call_pattern}
 use Rattle.rewriting.proofs.Bounds.{children_same, symbols_enough}
 use Rattle.rewriting.proofs.OpenPositions.{sole_same, fit_letters, position_short, row_positions, row_sizes, opened_graft}
 use Rattle.rewriting.proofs.Payments.{mem_paid, paid_children}
@@ -37,16 +37,13 @@ module _ (S : Signature) where
 
 -- A pattern for which the tree is grown: the rules that remain fit it, and its symbols and what is left of the bound are one more than the bound.
 record Growth (S : Signature) (k most n : ℕ) (π : Term) (rs : List Rule) : Type 0 where
-  formed : Formed S π
-  sorted : Sorted S as_sort (bare S π) k
-  fitting : AllReady S (bare S π) k rs
-  remaining : (r : Rule) × Memᴰ r rs
+  pattern : Pattern S k π rs
   spent : size π + n ≡ suc most
   short : (r : Rule) → Memᴰ r rs → size (left_side r) + length (variables (left_side r)) ≤ most
 
 module _ (S : Signature) where
   growth_fit : {k most n : ℕ} {π : Term} {rs : List Rule} → Growth S k most n π rs → (r : Rule) → Memᴰ r rs → Fit π (left_side r)
-  growth_fit {π = π} g r m = fit_named S π 0 g.formed (g.fitting r m).0
+  growth_fit {π = π} g r m = fit_named S π 0 g.pattern.formed (g.pattern.fitting r m).0
 
   -- the child under a constructor: its open positions, and that it is such a pattern
   open_child : (π : Term) (rs : List Rule) (p : List ℕ) (c : Head) → first_shared (variable_positions π) rs ≡ Some p → opened_under S (variable_positions π) p c ≡ variable_positions (refined S π p c)
@@ -56,19 +53,11 @@ module _ (S : Signature) where
 
 module _ (S : Signature) (k most : ℕ) where
   growth_child : (n : ℕ) (π : Term) (rs : List Rule) (p : List ℕ) (c : Head) → Growth S k most (suc n) π rs → first_shared (variable_positions π) rs ≡ Some p → Memᴰ c (constructors_at p rs)
-      → Growth S k most n (refined S π p c) (kept (has_at p c) rs)
+      → Growth S k most n (refined S π p c) (filter (has_at p c) rs)
   growth_child n π rs p c g e m =
-      let f = (first_is (variable_positions π) rs e).0 in
-      let j = bare_position S π g.formed f in
-      let x = (position_named π f).1 in
-      let v = occurs p rs m in
-      let o = (ready_constructor S (bare S π) k p v.0 g.sorted j.1 (g.fitting v.0 v.1) v.2).0 in
-      let i = sym (child_bare S π p c f) in
+      let x = (position_named π (first_is (variable_positions π) rs e).0).1 in
       record {
-        formed = formed_refined S π p c g.formed x;
-        sorted = subst (λ (ρ : Term). Sorted S as_sort ρ k) i (graft_sorted S (bare S π) k p c g.sorted j.1 o);
-        fitting = subst (λ (ρ : Term). AllReady S ρ k (kept (has_at p c) rs)) i (ready_child S (bare S π) k p c rs g.sorted j.1 g.fitting);
-        remaining = (v.0, mem_kept (has_at p c) v.1 (constructor_has p c v.0 v.2));
+        pattern = pattern_child S p c g.pattern e m;
         spent = (let l = g.spent in let a = size_graft π p (con c (variables_from (unused π) (length (head_args S c)))) x in let b = row_sizes (unused π) (length (head_args S c)) in omega arith);
         short = (λ r l. g.short r (kept_mem (has_at p c) rs l).0);
       }
@@ -76,25 +65,25 @@ module _ (S : Signature) (k most : ℕ) where
   -- grown and built, the tree is the same
   grow_build : (n : ℕ) (π : Term) (rs : List Rule) → Growth S k most n π rs → grow S n (variable_positions π) rs ≡ build S n π rs
   grow_build zero π rs g = refl
-  grow_build (suc n) π rs g = ap₂ or_else (sole_same π rs (growth_fit S g)) (go (first_shared (variable_positions π) rs) refl (grow_build n))
+  grow_build (suc n) π rs g = ap₂ option_or (sole_same π rs (growth_fit S g)) (go (first_shared (variable_positions π) rs) refl (grow_build n))
     where
       go : (o : Option (List ℕ)) → first_shared (variable_positions π) rs ≡ o → ((ρ : Term) (qs : List Rule) → Growth S k most n ρ qs → grow S n (variable_positions ρ) qs ≡ build S n ρ qs)
-          → onward o (λ p. mapped (branch p) (children (λ c. grow S n (opened_under S (variable_positions π) p c) (kept (has_at p c) rs)) (constructors_at p rs)))
-          ≡ onward o (λ p. mapped (branch p) (children (subtree S n π rs p) (constructors_at p rs)))
+          → onward o (λ p. option_map (branch p) (children (λ c. grow S n (opened_under S (variable_positions π) p c) (filter (has_at p c) rs)) (constructors_at p rs)))
+          ≡ onward o (λ p. option_map (branch p) (children (subtree S n π rs p) (constructors_at p rs)))
       go None e ih = refl
       go (Some p) e ih =
-          ap (mapped (branch p)) (children_same (λ c. grow S n (opened_under S (variable_positions π) p c) (kept (has_at p c) rs)) (subtree S n π rs p) (constructors_at p rs)
-          (λ c m. ap (λ (ps : List (List ℕ)). grow S n ps (kept (has_at p c) rs)) (open_child S π rs p c e) ∙ ih (refined S π p c) (kept (has_at p c) rs) (growth_child n π rs p c g e m)))
+          ap (option_map (branch p)) (children_same (λ c. grow S n (opened_under S (variable_positions π) p c) (filter (has_at p c) rs)) (subtree S n π rs p) (constructors_at p rs)
+          (λ c m. ap (λ (ps : List (List ℕ)). grow S n ps (filter (has_at p c) rs)) (open_child S π rs p c e) ∙ ih (refined S π p c) (filter (has_at p c) rs) (growth_child n π rs p c g e m)))
 
   -- and no bound is passed
   growth_within : (n : ℕ) (π : Term) (rs : List Rule) → Growth S k most n π rs → Within most n (variable_positions π) rs
   growth_within n π rs g =
-      let r = g.remaining.0 in
-      let m = g.remaining.1 in
+      let r = g.pattern.remaining.0 in
+      let m = g.pattern.remaining.1 in
       let l = g.spent in
       let larger : (q : Rule) → Memᴰ q rs → most < size (left_side q) + n = (λ q i. let a = fit_size (growth_fit S g q i) in omega arith) in
       record {
-        remains = g.remaining;
+        remains = g.pattern.remaining;
         few = (let a = fit_letters (growth_fit S g r m) in let b = g.short r m in omega arith);
         near = (λ p i. let a = position_short π p (position_named π i).1 in omega arith);
         pays = (let a = mem_paid most n m in let b = larger r m in omega arith);
@@ -110,10 +99,7 @@ module _ (B : Book) (f most : ℕ) (h : Ruled B f) (s : NoLonger B f most) where
 
   growth_call : Growth S (fn_sort S (own f)) most most (call_of S f) (rules_of B f)
   growth_call = record {
-    formed = formed_call S f;
-    sorted = unnamed B f h.right (λ ρ. Sorted S as_sort ρ (fn_sort S (own f))) (pattern_sorted B f h.right h.some.0 h.some.1);
-    fitting = unnamed B f h.right (λ ρ. AllReady S ρ (fn_sort S (own f)) (rules_of B f)) (ready B f h.right);
-    remaining = h.some;
+    pattern = call_pattern B f h.right h.some.0 h.some.1;
     spent = (let a = row_sizes 0 (length (fn_args S (own f))) in omega arith);
     short = s;
   }

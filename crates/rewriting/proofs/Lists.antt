@@ -1,61 +1,83 @@
 -- Lists: what passes a test, and permutations.
-use Rattle.std.proofs.Common.{◌≡◌, ℕ, Bool, true, false, cond, ◌||◌, eqb, ◌⊎◌, List, [], ◌∷◌, ◌++◌, refl, ap, ◌∙◌, subst, inl, inr}
+use Rattle.std.proofs.Common.{◌≡◌, ℕ, Bool, true, false, cond, ◌||◌, ◌⊎◌, List, [], ◌∷◌, ◌++◌, refl, ap, ◌∙◌, subst, inl, inr, filter, sym, find, Some, Option, bytes_eq}
 use mathlib.Core.List.Memᴰ
 use mathlib.Core.List.{Memᴰ}
-use Rattle.rewriting.specs.Rules.{kept}
+use Rattle.std.specs.List.{list_any, list_all}
+use Rattle.std.proofs.lemmas.Bool.{or_cases, or_left, or_right, and_parts, and_from, cond-true, cond_both, cases_Bool}
+use Rattle.std.proofs.lemmas.Slice.Eq.{bytes_eq-Decides}
+use Rattle.rewriting.specs.Rules.{Different}
 use Rattle.rewriting.specs.Trees.{Put, put_here, put_later, Permutation, perm_nil, perm_more}
-use Rattle.rewriting.proofs.Basics.{zero_one, eqb_same, eqb_true}
 
 module _ {A : Type 0} where
   module _ (t : A → Bool) where
-    pub mem_kept : {x : A} {xs : List A} → Memᴰ x xs → t x ≡ true → Memᴰ x (kept t xs)
+    pub mem_kept : {x : A} {xs : List A} → Memᴰ x xs → t x ≡ true → Memᴰ x (filter t xs)
     mem_kept (Memᴰ.head {x = y} e) h = rw (← (ap t e), h) (Memᴰ.head e)
-    mem_kept {x} (Memᴰ.tail {x = y} {xs = ys} m) h = go (t y) (mem_kept m h)
-      where
-        go : (b : Bool) → Memᴰ x (kept t ys) → Memᴰ x (cond b (y ∷ kept t ys) (kept t ys))
-        go true n = Memᴰ.tail n
-        go false n = n
+    mem_kept {x} (Memᴰ.tail {x = y} {xs = ys} m) h = cond_both (t y) (y ∷ filter t ys) (filter t ys) (Memᴰ x) (λ e. Memᴰ.tail (mem_kept m h)) (λ e. mem_kept m h)
 
-    pub kept_mem : {x : A} (xs : List A) → Memᴰ x (kept t xs) → Memᴰ x xs × (t x ≡ true)
+    pub kept_mem : {x : A} (xs : List A) → Memᴰ x (filter t xs) → Memᴰ x xs × (t x ≡ true)
     kept_mem [] m = absurd (Memᴰ.not-nil m)
-    kept_mem {x} (y ∷ ys) m = go (t y) refl (λ n. kept_mem ys n) m
-      where
-        go : (b : Bool) → t y ≡ b → (Memᴰ x (kept t ys) → Memᴰ x ys × (t x ≡ true)) → Memᴰ x (cond b (y ∷ kept t ys) (kept t ys)) → Memᴰ x (y ∷ ys) × (t x ≡ true)
-        go true e ih (Memᴰ.head d) = (Memᴰ.head d, ap t d ∙ e)
-        go true e ih (Memᴰ.tail n) = let z = ih n in (Memᴰ.tail z.0, z.1)
-        go false e ih n = let z = ih n in (Memᴰ.tail z.0, z.1)
+    kept_mem {x} (y ∷ ys) m =
+        cond_both (t y) (y ∷ filter t ys) (filter t ys) (λ (zs : List A). Memᴰ x zs → Memᴰ x (y ∷ ys) × (t x ≡ true))
+        (λ e n. elim (Memᴰ.cases_cons n) [ inl d ↦ (Memᴰ.head d, ap t d ∙ e) | inr k ↦ let z = kept_mem ys k in (Memᴰ.tail z.0, z.1) ])
+        (λ e n. let z = kept_mem ys n in (Memᴰ.tail z.0, z.1))
+        m
 
-    pub kept_all : (xs : List A) → ((x : A) → Memᴰ x xs → t x ≡ true) → kept t xs ≡ xs
+    pub kept_all : (xs : List A) → ((x : A) → Memᴰ x xs → t x ≡ true) → filter t xs ≡ xs
     kept_all [] h = refl
     kept_all (x ∷ xs) h = rw (h x (Memᴰ.head refl)) (ap (λ (ys : List A). x ∷ ys) (kept_all xs (λ y m. h y (Memᴰ.tail m))))
 
-    pub kept_none : (xs : List A) → ((x : A) → Memᴰ x xs → t x ≡ false) → kept t xs ≡ []
+    pub kept_none : (xs : List A) → ((x : A) → Memᴰ x xs → t x ≡ false) → filter t xs ≡ []
     kept_none [] h = refl
     kept_none (x ∷ xs) h = rw (h x (Memᴰ.head refl)) (kept_none xs (λ y m. h y (Memᴰ.tail m)))
 
-    pub kept_append : (xs ys : List A) → kept t (xs ++ ys) ≡ kept t xs ++ kept t ys
-    kept_append [] ys = refl
-    kept_append (x ∷ xs) ys = go (t x) (kept_append xs ys)
-      where
-        go : (b : Bool) → kept t (xs ++ ys) ≡ kept t xs ++ kept t ys → cond b (x ∷ kept t (xs ++ ys)) (kept t (xs ++ ys)) ≡ cond b (x ∷ kept t xs) (kept t xs) ++ kept t ys
-        go true e = ap (λ (zs : List A). x ∷ zs) e
-        go false e = e
+    -- some element passes
+    pub any_mem : (xs : List A) → list_any t xs ≡ true → (x : A) × Memᴰ x xs × (t x ≡ true)
+    any_mem [] e = absurd (cc)
+    any_mem (x ∷ xs) e =
+        elim (or_cases (t x) (list_any t xs) e) [ inl h ↦ (x, Memᴰ.head refl, h) | inr h ↦ let z = any_mem xs h in (z.0, Memᴰ.tail z.1, z.2) ]
+
+    pub mem_any : {x : A} {xs : List A} → Memᴰ x xs → t x ≡ true → list_any t xs ≡ true
+    mem_any (Memᴰ.head {x = y} {xs = ys} e) h = or_left (t y) (list_any t ys) (ap t (sym e) ∙ h)
+    mem_any (Memᴰ.tail {x = y} {xs = ys} m) h = or_right (t y) (list_any t ys) (mem_any m h)
+
+    -- each element passes
+    pub all_mem : {x : A} {xs : List A} → Memᴰ x xs → list_all t xs ≡ true → t x ≡ true
+    all_mem (Memᴰ.head {x = y} {xs = ys} e) h = ap t e ∙ (and_parts (t y) (list_all t ys) h).0
+    all_mem (Memᴰ.tail {x = y} {xs = ys} m) h = all_mem m (and_parts (t y) (list_all t ys) h).1
+
+    pub mem_all : (xs : List A) → ((x : A) → Memᴰ x xs → t x ≡ true) → list_all t xs ≡ true
+    mem_all [] h = refl
+    mem_all (x ∷ xs) h = and_from (t x) (list_all t xs) (h x (Memᴰ.head refl)) (mem_all xs (λ y m. h y (Memᴰ.tail m)))
+
+    -- the first that passes
+    pub found : (xs : List A) {x : A} → find t xs ≡ Some x → Memᴰ x xs × (t x ≡ true)
+    found [] e = absurd (cc)
+    found (y ∷ ys) {x} e =
+        cond_both (t y) (Some y) (find t ys) (λ (o : Option A). o ≡ Some x → Memᴰ x (y ∷ ys) × (t x ≡ true))
+        (λ d h. let i : x ≡ y = cc in (Memᴰ.head i, ap t i ∙ d))
+        (λ d h. let z = found ys h in (Memᴰ.tail z.0, z.1))
+        e
+
+    pub mem_found : {x : A} {xs : List A} → Memᴰ x xs → t x ≡ true → (y : A) × (find t xs ≡ Some y)
+    mem_found (Memᴰ.head {x = y} {xs = ys} e) h = (y, cond-true (t y) (Some y) (find t ys) (ap t (sym e) ∙ h))
+    mem_found (Memᴰ.tail {x = y} {xs = ys} m) h = cond_both (t y) (Some y) (find t ys) (λ (o : Option A). (z : A) × (o ≡ Some z)) (λ e. (y, refl)) (λ e. mem_found m h)
+
+    -- what passes is different if all is
+    pub different_kept : (xs : List A) → Different xs → Different (filter t xs)
+    different_kept [] h = tt
+    different_kept (x ∷ xs) h = cond_both (t x) (x ∷ filter t xs) (filter t xs) Different (λ e. ((λ m. h.0 (kept_mem xs m).0), different_kept xs h.1)) (λ e. different_kept xs h.1)
 
   -- the order of two tests does not matter
-  pub kept_twice : (f g : A → Bool) (xs : List A) → kept f (kept g xs) ≡ kept g (kept f xs)
+  pub kept_twice : (f g : A → Bool) (xs : List A) → filter f (filter g xs) ≡ filter g (filter f xs)
   kept_twice f g [] = refl
   kept_twice f g (x ∷ xs) = go (f x) refl (g x) refl (kept_twice f g xs)
     where
-      go : (a : Bool) → f x ≡ a → (b : Bool) → g x ≡ b → kept f (kept g xs) ≡ kept g (kept f xs)
-          → kept f (cond b (x ∷ kept g xs) (kept g xs)) ≡ kept g (cond a (x ∷ kept f xs) (kept f xs))
+      go : (a : Bool) → f x ≡ a → (b : Bool) → g x ≡ b → filter f (filter g xs) ≡ filter g (filter f xs)
+          → filter f (cond b (x ∷ filter g xs) (filter g xs)) ≡ filter g (cond a (x ∷ filter f xs) (filter f xs))
       go true d true e h = rw (d, e) (ap (λ (zs : List A). x ∷ zs) h)
       go true d false e h = rw e h
       go false d true e h = rw d h
       go false d false e h = h
-
-  pub append_nil : (xs : List A) → xs ++ [] ≡ xs
-  append_nil [] = refl
-  append_nil (x ∷ xs) = ap (λ (ys : List A). x ∷ ys) (append_nil xs)
 
   -- permutations have the same members
   put_mem : {x y : A} {ys zs : List A} → Put x ys zs → Memᴰ y zs → (y ≡ x) ⊎ Memᴰ y ys
@@ -87,14 +109,14 @@ module _ {A : Type 0} where
   -- a permutation of one
   pub none_perm : {xs ys : List A} → Permutation xs ys → xs ≡ [] → ys ≡ []
   none_perm perm_nil e = refl
-  none_perm (perm_more i p) e = absurd (zero_one (cc))
+  none_perm (perm_more i p) e = absurd (cc)
 
   put_none : {x : A} {ys zs : List A} → Put x ys zs → ys ≡ [] → zs ≡ x ∷ []
   put_none {x} put_here e = ap (λ (vs : List A). x ∷ vs) e
-  put_none (put_later i) e = absurd (zero_one (cc))
+  put_none (put_later i) e = absurd (cc)
 
   pub one_perm : {xs ys : List A} {r : A} → Permutation xs ys → xs ≡ r ∷ [] → ys ≡ r ∷ []
-  one_perm perm_nil e = absurd (zero_one (cc))
+  one_perm perm_nil e = absurd (cc)
   one_perm {r = r} (perm_more {x = x} {xs = xs} {zs = zs} i p) e =
       let d : x ≡ r = cc in
       let f : xs ≡ [] = cc in
@@ -102,25 +124,22 @@ module _ {A : Type 0} where
 
   -- a permutation of what passes a test
   module _ (t : A → Bool) where
-    put_true : {x : A} {ys zs : List A} → Put x ys zs → t x ≡ true → Put x (kept t ys) (kept t zs)
+    put_true : {x : A} {ys zs : List A} → Put x ys zs → t x ≡ true → Put x (filter t ys) (filter t zs)
     put_true put_here e = rw e put_here
     put_true {x} (put_later {y = y} {ys = ys} {zs = zs} i) e = go (t y) (put_true i e)
       where
-        go : (b : Bool) → Put x (kept t ys) (kept t zs) → Put x (cond b (y ∷ kept t ys) (kept t ys)) (cond b (y ∷ kept t zs) (kept t zs))
+        go : (b : Bool) → Put x (filter t ys) (filter t zs) → Put x (cond b (y ∷ filter t ys) (filter t ys)) (cond b (y ∷ filter t zs) (filter t zs))
         go true j = put_later j
         go false j = j
 
-    put_false : {x : A} {ys zs : List A} → Put x ys zs → t x ≡ false → kept t zs ≡ kept t ys
+    put_false : {x : A} {ys zs : List A} → Put x ys zs → t x ≡ false → filter t zs ≡ filter t ys
     put_false put_here e = rw e
     put_false (put_later {y = y} i) e = ap (λ (vs : List A). cond (t y) (y ∷ vs) vs) (put_false i e)
 
-    pub perm_kept : {xs ys : List A} → Permutation xs ys → Permutation (kept t xs) (kept t ys)
+    pub perm_kept : {xs ys : List A} → Permutation xs ys → Permutation (filter t xs) (filter t ys)
     perm_kept perm_nil = perm_nil
-    perm_kept (perm_more {x = x} {xs = xs} {ys = ys} {zs = zs} i p) = go (t x) refl (perm_kept p)
-      where
-        go : (b : Bool) → t x ≡ b → Permutation (kept t xs) (kept t ys) → Permutation (cond b (x ∷ kept t xs) (kept t xs)) (kept t zs)
-        go true e q = perm_more (put_true i e) q
-        go false e q = rw (put_false i e) q
+    perm_kept (perm_more {x = x} {xs = xs} {ys = ys} {zs = zs} i p) =
+        cond_both (t x) (x ∷ filter t xs) (filter t xs) (λ (vs : List A). Permutation vs (filter t zs)) (λ e. perm_more (put_true i e) (perm_kept p)) (λ e. rw (put_false i e) (perm_kept p))
 
   -- zs is dealt out to xs and ys
   pub data Mix : List A → List A → List A → Type 0 where
@@ -130,7 +149,7 @@ module _ {A : Type 0} where
 
   mix_none : {xs ys zs : List A} → Mix xs ys zs → xs ≡ [] → ys ≡ zs
   mix_none mix_nil e = refl
-  mix_none (mix_left m) e = absurd (zero_one (cc))
+  mix_none (mix_left m) e = absurd (cc)
   mix_none (mix_right {y = y} m) e = ap (λ (vs : List A). y ∷ vs) (mix_none m e)
 
   take_out : {x : A} {xs ys zs vs : List A} → Mix xs ys zs → Put x vs xs → (us : List A) × Put x us zs × Mix vs ys us
@@ -144,12 +163,12 @@ module _ {A : Type 0} where
   perm_mix (perm_more i p) q m = let z = take_out m i in perm_more z.1 (perm_mix p q z.2)
 
   -- what passes one of two tests, no two of which pass together
-  pub mix_kept : (f g : A → Bool) (xs : List A) → ((x : A) → f x ≡ true → g x ≡ true → ⊥) → Mix (kept f xs) (kept g xs) (kept (λ x. f x || g x) xs)
+  pub mix_kept : (f g : A → Bool) (xs : List A) → ((x : A) → f x ≡ true → g x ≡ true → ⊥) → Mix (filter f xs) (filter g xs) (filter (λ x. f x || g x) xs)
   mix_kept f g [] h = mix_nil
   mix_kept f g (x ∷ xs) h = go (f x) refl (g x) refl (mix_kept f g xs h)
     where
-      go : (a : Bool) → f x ≡ a → (b : Bool) → g x ≡ b → Mix (kept f xs) (kept g xs) (kept (λ y. f y || g y) xs)
-          → Mix (cond a (x ∷ kept f xs) (kept f xs)) (cond b (x ∷ kept g xs) (kept g xs)) (cond (a || b) (x ∷ kept (λ y. f y || g y) xs) (kept (λ y. f y || g y) xs))
+      go : (a : Bool) → f x ≡ a → (b : Bool) → g x ≡ b → Mix (filter f xs) (filter g xs) (filter (λ y. f y || g y) xs)
+          → Mix (cond a (x ∷ filter f xs) (filter f xs)) (cond b (x ∷ filter g xs) (filter g xs)) (cond (a || b) (x ∷ filter (λ y. f y || g y) xs) (filter (λ y. f y || g y) xs))
       go true d true e m = absurd (h x d e)
       go true d false e m = mix_left m
       go false d true e m = mix_right m
@@ -157,12 +176,6 @@ module _ {A : Type 0} where
 
 -- positions are equal or not
 pub same_position : (p q : List ℕ) → (p ≡ q) ⊎ (p ≡ q → ⊥)
-same_position [] [] = inl refl
-same_position [] (j ∷ q) = inr (λ e. zero_one (cc))
-same_position (i ∷ p) [] = inr (λ e. zero_one (cc))
-same_position (i ∷ p) (j ∷ q) = go (eqb i j) refl (same_position p q)
-  where
-    go : (b : Bool) → eqb i j ≡ b → (p ≡ q) ⊎ (p ≡ q → ⊥) → (i ∷ p ≡ j ∷ q) ⊎ (i ∷ p ≡ j ∷ q → ⊥)
-    go true e (inl d) = let h = eqb_true i j e in inl (cc)
-    go true e (inr n) = inr (λ d. n (cc))
-    go false e o = inr (λ d. zero_one (let h : i ≡ j = cc in let a = ap (λ (k : ℕ). eqb i k) h in let b = eqb_same i in cc))
+same_position p q =
+    let d = bytes_eq-Decides p q in
+    elim (cases_Bool (bytes_eq p q)) [ inl e ↦ inl (d.0 e) | inr e ↦ inr (λ h. let y = d.1 h in cc) ]

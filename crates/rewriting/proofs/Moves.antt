@@ -2,7 +2,7 @@
 use Rattle.std.proofs.Common.{◌≡◌, ℕ, zero, suc, ◌≤◌, Bool, true, false, cond, List, [], ◌∷◌, Some, None, Option, sym, refl, ap, ◌∙◌, subst, arith}
 use mathlib.Core.Path.{fun_ext}
 use Rattle.numbers.specs.Meaning.{Meaning}
-use Rattle.terms.specs.Terms.{Head, cell, symbol, Fn, plus, minus, atmost, own, Term, var, con, fun, Terms, nil, ◌▸◌, Value}
+use Rattle.terms.specs.Terms.{Head, cell, Fn, plus, minus, atmost, own, Term, var, con, fun, Terms, ◌▸◌, Value}
 use Rattle.terms.specs.Positions.{part, part_of, graft, graft_in}
 use Rattle.rewriting.specs.Substitutions.{instance, matching}
 use Rattle.rewriting.specs.Rules.{left_side, Book}
@@ -10,7 +10,7 @@ use Rattle.rewriting.specs.Steps.{by_rule, by_kind, sum, difference, comparison}
 use Rattle.rewriting.specs.Trees.{Node, at_rule, branch, Nodes, no_child, child}
 use Rattle.rewriting.specs.FixedTree.{same_head, fixed_tree}
 use Rattle.rewriting.specs.Strategy.{Found, look, walk, walk_child, at_cells, operate, walk_if, Move, from_above, depth, depths, outermost, first_outermost, find, move_in, φ, after}
-use Rattle.rewriting.proofs.Basics.{zero_one, onward_some}
+use Rattle.rewriting.proofs.Basics.{onward_some}
 use Rattle.rewriting.proofs.Positions.{part_here, graft_here}
 use Rattle.rewriting.proofs.Plans.{Plan, no_plan, leaf, split, seek}
 use Rattle.rewriting.proofs.Runs.{value_calm, Many, done, ◌next◌, Phi, phi_root, phi_inside, Next, next_call, next_con, Nexts, next_here, next_later}
@@ -27,9 +27,7 @@ abbrev mutual
 
 abbrev pub cells_plan : (ℕ → ℕ → Term) → Head → Head → Plan
 cells_plan g (cell m) (cell n) = leaf by_kind (λ t. g m n)
-cells_plan g (cell m) (symbol s) = no_plan
-cells_plan g (symbol s) (cell n) = no_plan
-cells_plan g (symbol s) (symbol z) = no_plan
+cells_plan g c d = no_plan
 
 abbrev pub operation_plan : (ℕ → ℕ → Term) → Plan
 operation_plan g = split (1 ∷ []) (λ c. split (2 ∷ []) (λ d. cells_plan g c d))
@@ -59,9 +57,7 @@ mutual
 
 cells_seek : (g : ℕ → ℕ → Term) (c d : Head) (t : Term) → at_cells g c d ≡ seek (cells_plan g c d) t
 cells_seek g (cell m) (cell n) t = refl
-cells_seek g (cell m) (symbol s) t = refl
-cells_seek g (symbol s) (cell n) t = refl
-cells_seek g (symbol s) (symbol z) t = refl
+cells_seek g c d t = refl
 
 operate_seek : (g : ℕ → ℕ → Term) (t : Term) → operate g t ≡ seek (operation_plan g) t
 operate_seek g t = ap (look (part t (1 ∷ [])) (1 ∷ [])) (fun_ext (λ c. ap (look (part t (2 ∷ [])) (2 ∷ [])) (fun_ext (λ d. cells_seek g c d t))))
@@ -80,17 +76,16 @@ find_seek M B (own f) ts = if_seek (fixed_tree B f) (fun (own f) ts)
 mutual
   depth_part : (t : Term) (p : List ℕ) {s : Term} → part t p ≡ Some s → depth s ≤ depth t
   depth_part (var v) [] {s} e = let q : s ≡ var v = cc in let d : depth s ≡ depth (var v) = ap depth q in omega arith
-  depth_part (var v) (i ∷ p) e = absurd (zero_one (cc))
+  depth_part (var v) (i ∷ p) e = absurd (cc)
   depth_part (con c ts) [] {s} e = let q : s ≡ con c ts = cc in let d : depth s ≡ depth (con c ts) = ap depth q in omega arith
   depth_part (con c ts) (i ∷ p) e = let h = depths_part ts i p e in omega arith
   depth_part (fun f ts) [] {s} e = let q : s ≡ fun f ts = cc in let d : depth s ≡ depth (fun f ts) = ap depth q in omega arith
   depth_part (fun f ts) (i ∷ p) e = let h = depths_part ts i p e in omega arith
 
   pub depths_part : (ts : Terms) (i : ℕ) (p : List ℕ) {s : Term} → part_of ts i p ≡ Some s → depth s ≤ depths ts
-  depths_part nil i p e = absurd (zero_one (cc))
-  depths_part (t ▸ ts) zero p e = absurd (zero_one (cc))
   depths_part (t ▸ ts) (suc zero) p e = let h = depth_part t p e in omega arith
   depths_part (t ▸ ts) (suc (suc i)) p e = let h = depths_part ts (suc i) p e in omega arith
+  depths_part ts i p e = absurd (cc)
 
 module _ (M : Meaning) (B : Book) where
   phi_move : {t u : Term} → Phi (plan M B) t u → (n : ℕ) → depth t ≤ n → (m : Move) × (move_in M B n t ≡ Some m) × (m.next ≡ u)
@@ -143,12 +138,12 @@ module _ (M : Meaning) (B : Book) where
       let q : t ≡ v = cc in
       let x = onward_some (φ M B t) (λ (y : Move). after M B m y.next) e in
       let z = none_at_value t (subst Value (sym q) g) in
-      absurd (zero_one (let y = x.1 in cc))
+      absurd (let y = x.1 in cc)
   same_end (suc n) zero t v w d e g h =
       let q : t ≡ w = cc in
       let x = onward_some (φ M B t) (λ (y : Move). after M B n y.next) d in
       let z = none_at_value t (subst Value (sym q) h) in
-      absurd (zero_one (let y = x.1 in cc))
+      absurd (let y = x.1 in cc)
   same_end (suc n) (suc m) t v w d e g h =
       let x = onward_some (φ M B t) (λ (y : Move). after M B n y.next) d in
       let z = onward_some (φ M B t) (λ (y : Move). after M B m y.next) e in

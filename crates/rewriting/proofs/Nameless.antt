@@ -8,7 +8,6 @@ use Rattle.terms.specs.Positions.{part, graft}
 use Rattle.rewriting.specs.Rules.{left_side, Different, Linear}
 use Rattle.rewriting.specs.Trees.{Node, at_rule, branch, Nodes, no_child, child, heads, SomeChild, ConstructorOf, VariableAt, Tree, Children, Complete, AllComplete, variables_from, unused, call_of, refined}
 use Rattle.rewriting.specs.FixedTree.{alike}
-use Rattle.rewriting.proofs.Basics.{fun_var}
 use Rattle.rewriting.proofs.Blanks.{over_blank, blank_call, bare, Formed, blank_variable, variable_blank, blank_refined, formed_refined, bare_call, formed_call, alike_blank}
 use Rattle.rewriting.proofs.Variants.{linear_call, linear_refined, alike_variant, variant_alike, variant_linear}
 
@@ -40,7 +39,7 @@ module _ (S : Signature) where
 
   -- its variables with and without names
   bare_variable : (π : Term) (p : List ℕ) {k : ℕ} → Named π → part (bare S π) p ≡ Some (var k) → VariableAt S π p k
-  bare_variable π [] {k} h e = absurd (fun_var (subst (λ (t : Term). part (bare S t) [] ≡ Some (var k)) h.0.2 e))
+  bare_variable π [] {k} h e = absurd (let q = subst (λ (t : Term). part (bare S t) [] ≡ Some (var k)) h.0.2 e in cc)
   bare_variable π (i ∷ p) h e = blank_variable S π 0 i p e
 
   variable_bare : (π : Term) (p : List ℕ) {k : ℕ} → Named π → VariableAt S π p k → part (bare S π) p ≡ Some (var k)
@@ -56,7 +55,7 @@ module _ (S : Signature) where
   named_refined π p c h v = (still π p (con c (variables_from (unused π) (length (head_args S c)))) h.0 v.0.1, formed_refined S π p c h.1 v.0.1, linear_refined S π p c h.2)
     where
       still : (t : Term) (q : List ℕ) {x : ℕ} (ρ : Term) → (f : Fn) × (ts : Terms) × (t ≡ fun f ts) → part t q ≡ Some (var x) → (f : Fn) × (ts : Terms) × (graft t q ρ ≡ fun f ts)
-      still t [] {x} ρ g e = absurd (fun_var (subst (λ (u : Term). part u [] ≡ Some (var x)) g.2 e))
+      still t [] {x} ρ g e = absurd (let q = subst (λ (u : Term). part u [] ≡ Some (var x)) g.2 e in cc)
       still t (i ∷ q) ρ g e = (g.0, _, ap (λ (u : Term). graft u (i ∷ q) ρ) g.2)
 
   -- from names to none

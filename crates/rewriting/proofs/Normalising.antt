@@ -1,21 +1,22 @@
 -- φ normalises, and only one value can come of a term.
-use Rattle.std.proofs.Common.{◌≡◌, ℕ, Bool, true, false, cond, eqb, List, [], ◌∷◌, Some, None, Option, sym, refl, ap, ◌∙◌, subst, subst₂}
+use Rattle.std.proofs.Common.{◌≡◌, ℕ, true, eqb, List, [], ◌∷◌, Some, None, Option, sym, refl, ap, ◌∙◌, subst, subst₂, eqb-true, eq-eqb, filter, unwrap_or}
 use mathlib.Core.List.Memᴰ
 use mathlib.Core.List.{Memᴰ}
+use Rattle.std.proofs.lemmas.Bool.{cond_both}
 use Rattle.numbers.specs.Meaning.{Meaning}
-use Rattle.terms.specs.Terms.{Head, cell, symbol, Fn, plus, minus, atmost, own, Term, con, fun, Terms, Value}
+use Rattle.terms.specs.Terms.{Head, cell, Fn, plus, minus, atmost, own, Term, con, fun, Terms, Value, var}
 use Rattle.terms.specs.Options.{onward}
 use Rattle.terms.specs.Signatures.{Signature}
 use Rattle.terms.specs.Roots.{head_args, fn_args}
 use Rattle.terms.specs.Positions.{part, graft}
-use Rattle.rewriting.specs.Substitutions.{instance, position_of, occurrences, term_or, matching}
-use Rattle.rewriting.specs.Rules.{Rule, left_side, Book, kept, rules_of, Linear, SortCorrect, SortCorrectRules}
+use Rattle.rewriting.specs.Substitutions.{instance, position_of, occurrences, matching}
+use Rattle.rewriting.specs.Rules.{Rule, left_side, Book, rules_of, Linear, SortCorrect, SortCorrectRules}
 use Rattle.rewriting.specs.Steps.{Cause, by_rule, sum, difference, comparison, Contracts, a_rule, a_sum, a_difference, a_comparison, Steps, stay, ◌then◌}
 use Rattle.rewriting.specs.Trees.{Node, at_rule, branch, Nodes, no_child, child, heads, TreeFor}
 use Rattle.rewriting.specs.FixedTree.{same_head, alike, constructor_at, has_at, fixed_tree}
 use Rattle.rewriting.specs.Strategy.{contract, after}
 use Rattle.rewriting.specs.Promises.{HasTrees, Normalises, OneValue}
-use Rattle.rewriting.proofs.Basics.{zero_one, eqb_same, eqb_true, same_head_same, same_head_true, fun_var}
+use Rattle.rewriting.proofs.Basics.{same_head_true, mem_other}
 use Rattle.rewriting.proofs.Lists.{mem_kept, kept_mem, perm_mem}
 use Rattle.rewriting.proofs.Occurrences.{position_stands, occurs_part, part_variable, part_instance, matching_instance, each, instance_agrees}
 use Rattle.rewriting.proofs.Shapes.{alike_part}
@@ -29,14 +30,14 @@ use Rattle.rewriting.proofs.Nameless.{tree_nameless, Nameless, NamelessAll}
 
 -- a rule's contractum respects reduction: a variable's position in the left side is a variable's in the pattern
 module _ (pl : Fn → Plan) where
-  or_reduces : (x : ℕ) {a b : Option Term} → Both (St pl) a b → St pl (term_or x a) (term_or x b)
+  or_reduces : (x : ℕ) {a b : Option Term} → Both (St pl) a b → St pl (unwrap_or a (var x)) (unwrap_or b (var x))
   or_reduces x neither = st_var
   or_reduces x (both r) = r
 
   matching_reduces : (l π : Term) → alike l π ≡ true → {t u : Term} → Over (St pl) (Sts pl) π t u → (x : ℕ) → St pl (matching l t x) (matching l u x)
   matching_reduces l π e {t} {u} o x = go (position_of x (occurrences l)) refl
     where
-      go : (q : Option (List ℕ)) → position_of x (occurrences l) ≡ q → St pl (term_or x (onward q (part t))) (term_or x (onward q (part u)))
+      go : (q : Option (List ℕ)) → position_of x (occurrences l) ≡ q → St pl (unwrap_or (onward q (part t)) (var x)) (unwrap_or (onward q (part u)) (var x))
       go None d = st_var
       go (Some p) d = let y = (alike_part l π e p).0 x (occurs_part l (position_stands x (occurrences l) p d)) in or_reduces x (over_part o p y.1)
 
@@ -45,25 +46,20 @@ module _ (pl : Fn → Plan) where
     mutual
       tree_serves : (n : Node) (g : Fn) (ps : Terms) → Nameless S n (fun g ps) → Serves pl (plan_of n) (fun g ps)
       tree_serves (at_rule r) g ps t = λ a b o. st_instance (matching_reduces (left_side r) (fun g ps) t.0 o) r.right
-      tree_serves (branch [] ns) g ps t = absurd (fun_var t.1)
+      tree_serves (branch [] ns) g ps t = absurd (cc t.1)
       tree_serves (branch (i ∷ q) ns) g ps t = ((i, q, refl), (t.0, t.1), λ c. children_serve ns i q t.0 g ps t.4 c)
 
       children_serve : (ns : Nodes) (i : ℕ) (q : List ℕ) (k : ℕ) (g : Fn) (ps : Terms) → NamelessAll S ns (i ∷ q) k (fun g ps) → (c : Head)
           → (ks : List ℕ) × Serves pl (child_plan ns c) (graft (fun g ps) (i ∷ q) (con c (fresh ks)))
       children_serve no_child i q k g ps t c = ([], tt)
-      children_serve (child d n ns) i q k g ps t c = go (same_head c d) refl (tree_serves n g _ t.1) (children_serve ns i q k g ps t.2 c)
-        where
-          go : (b : Bool) → same_head c d ≡ b → Serves pl (plan_of n) (graft (fun g ps) (i ∷ q) (over_blank S d))
-              → (ks : List ℕ) × Serves pl (child_plan ns c) (graft (fun g ps) (i ∷ q) (con c (fresh ks)))
-              → (ks : List ℕ) × Serves pl (cond b (plan_of n) (child_plan ns c)) (graft (fun g ps) (i ∷ q) (con c (fresh ks)))
-          go true e s h = (head_args S c, subst (λ (z : Head). Serves pl (plan_of n) (graft (fun g ps) (i ∷ q) (over_blank S z))) (sym (same_head_true c d e)) s)
-          go false e s h = h
+      children_serve (child d n ns) i q k g ps t c =
+          cond_both (same_head c d) (plan_of n) (child_plan ns c) (λ (T : Plan). (ks : List ℕ) × Serves pl T (graft (fun g ps) (i ∷ q) (con c (fresh ks))))
+          (λ e. (head_args S c, subst (λ (z : Head). Serves pl (plan_of n) (graft (fun g ps) (i ∷ q) (over_blank S z))) (sym (same_head_true c d e)) (tree_serves n g _ t.1)))
+          (λ e. children_serve ns i q k g ps t.2 c)
 
   cells_serve : (g : ℕ → ℕ → Term) (c d : Head) (π : Term) → Serves pl (cells_plan g c d) π
   cells_serve g (cell m) (cell n) π = λ t u o. st_refl (g m n)
-  cells_serve g (cell m) (symbol s) π = tt
-  cells_serve g (symbol s) (cell n) π = tt
-  cells_serve g (symbol s) (symbol z) π = tt
+  cells_serve g c d π = tt
 
   operation_serves : (g : ℕ → ℕ → Term) (f : Fn) → (ks : List ℕ) × Serves pl (operation_plan g) (fun f (fresh ks))
   operation_serves g f = (0 ∷ 0 ∷ [], ((1, [], refl), (0, refl), λ c. ([], ((2, [], refl), (0, refl), λ d. ([], cells_serve g c d _)))))
@@ -84,16 +80,9 @@ module _ (S : Signature) (r : Rule) (t : Term) (there : (p : List ℕ) (c : Head
         → seek (child_plan ns c) t ≡ contract (by_rule r) (instance (matching (left_side r) t) r.right)
     deal_seek no_child p π rs d c e h m = absurd (Memᴰ.not-nil h)
     deal_seek (child b n ns) p π rs d c e h m =
-        go (same_head c b) refl h
-        (λ i. deals_seek n (graft π p (over_blank S b)) (kept (has_at p b) rs) d.1 (mem_kept (has_at p b) m (constructor_has p b r (e ∙ ap Some i))))
-        (λ k. deal_seek ns p π rs d.2 c e k m)
-      where
-        go : (x : Bool) → same_head c b ≡ x → Memᴰ c (b ∷ heads ns) → (c ≡ b → seek (plan_of n) t ≡ contract (by_rule r) (instance (matching (left_side r) t) r.right))
-            → (Memᴰ c (heads ns) → seek (child_plan ns c) t ≡ contract (by_rule r) (instance (matching (left_side r) t) r.right))
-            → seek (cond x (plan_of n) (child_plan ns c)) t ≡ contract (by_rule r) (instance (matching (left_side r) t) r.right)
-        go true q k f g = f (same_head_true c b q)
-        go false q (Memᴰ.head i) f g = absurd (zero_one (let u = ap (same_head c) i in let v = same_head_same c in cc))
-        go false q (Memᴰ.tail k) f g = g k
+        cond_both (same_head c b) (plan_of n) (child_plan ns c) (λ (T : Plan). seek T t ≡ contract (by_rule r) (instance (matching (left_side r) t) r.right))
+        (λ i. deals_seek n (graft π p (over_blank S b)) (filter (has_at p b) rs) d.1 (mem_kept (has_at p b) m (constructor_has p b r (e ∙ ap Some (same_head_true c b i)))))
+        (λ i. deal_seek ns p π rs d.2 c e (mem_other i h) m)
 
 module _ (M : Meaning) (B : Book) (sorted : SortCorrectRules B) (trees : HasTrees B) where
   abbrev S : Signature
@@ -103,7 +92,7 @@ module _ (M : Meaning) (B : Book) (sorted : SortCorrectRules B) (trees : HasTree
   pl = plan M B
 
   in_book : (f : ℕ) {r : Rule} → Memᴰ r (rules_of B f) → Memᴰ r B.rules × (r.function ≡ f)
-  in_book f {r} m = let x = kept_mem (λ q. eqb q.function f) B.rules m in (x.0, eqb_true r.function f x.1)
+  in_book f {r} m = let x = kept_mem (λ q. eqb q.function f) B.rules m in (x.0, eqb-true r.function f x.1)
 
   tree_of : (f : ℕ) {r : Rule} → Memᴰ r (rules_of B f) → (n : Node) × TreeFor B f n
   tree_of f {r} m = let x = in_book f m in subst (λ (g : ℕ). (n : Node) × TreeFor B g n) x.1 (trees r x.0)
@@ -135,8 +124,8 @@ module _ (M : Meaning) (B : Book) (sorted : SortCorrectRules B) (trees : HasTree
   own_finds : (r : Rule) (t : Term) → Memᴰ r B.rules → ((p : List ℕ) (c : Head) → constructor_at p r ≡ Some c → (bs : Terms) × (part t p ≡ Some (con c bs)))
       → seek (pl (own r.function)) t ≡ contract (by_rule r) (instance (matching (left_side r) t) r.right)
   own_finds r t m h =
-      let x = fixed_of r.function (mem_kept (λ q. eqb q.function r.function) m (eqb_same r.function)) in
-      rw x.1 (deals_seek S r t h x.0 (blank_call S r.function) (rules_of B r.function) x.2 (mem_kept (λ q. eqb q.function r.function) m (eqb_same r.function)))
+      let x = fixed_of r.function (mem_kept (λ q. eqb q.function r.function) m (eq-eqb r.function r.function refl)) in
+      rw x.1 (deals_seek S r t h x.0 (blank_call S r.function) (rules_of B r.function) x.2 (mem_kept (λ q. eqb q.function r.function) m (eq-eqb r.function r.function refl)))
 
   contracts_reduce : {c : Cause} {s w : Term} → Contracts M B c s w → St pl s w
   contracts_reduce {w = w} (a_rule r σ m d e) =

@@ -1,22 +1,14 @@
 -- The variables of a term, and the substitution that a match gives.
-use Rattle.std.proofs.Common.{◌≡◌, ℕ, zero, suc, Bool, true, false, cond, eqb, ◌⊎◌, List, [], ◌∷◌, map, Some, sym, refl, ap, ◌∙◌, subst, ap₂, inl, inr}
+use Rattle.std.proofs.Common.{◌≡◌, ℕ, zero, suc, Bool, true, false, cond, eqb, ◌⊎◌, List, [], ◌∷◌, map, Some, sym, refl, ap, ◌∙◌, subst, ap₂, inl, inr, eqb-true, eq-eqb, find, option_map}
 use mathlib.Core.List.Memᴰ
 use mathlib.Core.List.{Memᴰ}
+use Rattle.rewriting.proofs.Lists.{found, mem_found}
+use Rattle.rewriting.proofs.Basics.{mapped_some}
 use Rattle.terms.specs.Terms.{Term, var, con, fun, Terms, nil, ◌▸◌}
 use Rattle.terms.specs.Positions.{part, part_of}
-use Rattle.rewriting.specs.Substitutions.{Substitution, instance, instances, Occurrence, in_first, in_later, moved, occurrences, all_occurrences, variables, position_of, matching}
+use Rattle.rewriting.specs.Substitutions.{Substitution, instance, instances, Occurrence, in_first, in_later, moved, occurrences, all_occurrences, variables, position_of, matching, is_of}
 use Rattle.rewriting.specs.Rules.{Different, Linear}
-use Rattle.rewriting.proofs.Basics.{zero_one, con_var, fun_var, eqb_same, eqb_true}
 use Rattle.rewriting.proofs.Positions.{part_here, none_at_zero}
-
-pub mem_map : {A B : Type 0} (g : A → B) {a : A} {xs : List A} → Memᴰ a xs → Memᴰ (g a) (map g xs)
-mem_map g (Memᴰ.head e) = Memᴰ.head (ap g e)
-mem_map g (Memᴰ.tail m) = Memᴰ.tail (mem_map g m)
-
-pub map_mem : {A B : Type 0} (g : A → B) (xs : List A) {b : B} → Memᴰ b (map g xs) → (a : A) × Memᴰ a xs × (b ≡ g a)
-map_mem g [] m = absurd (Memᴰ.not-nil m)
-map_mem g (x ∷ xs) (Memᴰ.head e) = (x, Memᴰ.head refl, e)
-map_mem g (x ∷ xs) (Memᴰ.tail m) = let y = map_mem g xs m in (y.0, Memᴰ.tail y.1, y.2)
 
 abbrev at_position : ℕ → List ℕ → Occurrence
 at_position x p = record { name = x; position = p }
@@ -42,63 +34,55 @@ mutual
       go : Memᴰ o (map (moved in_first) (occurrences t)) ⊎ Memᴰ o (map (moved in_later) (all_occurrences ts))
           → ((q : Occurrence) → Memᴰ q (occurrences t) → part t q.position ≡ Some (var q.name))
           → ((q : Occurrence) → Memᴰ q (all_occurrences ts) → In ts q) → In (t ▸ ts) o
-      go (inl n) f g = let y = map_mem (moved in_first) (occurrences t) n in (0, y.0.position, ap (λ (u : Occurrence). u.position) y.2, f y.0 y.1 ∙ ap (λ (u : Occurrence). Some (var u.name)) (sym y.2))
+      go (inl n) f g = let y = Memᴰ.of_map (moved in_first) (occurrences t) n in (0, y.0.position, ap (λ (u : Occurrence). u.position) (sym y.2), f y.0 y.1 ∙ ap (λ (u : Occurrence). Some (var u.name)) y.2)
       go (inr n) f g =
-          let y = map_mem (moved in_later) (all_occurrences ts) n in
+          let y = Memᴰ.of_map (moved in_later) (all_occurrences ts) n in
           let z = g y.0 y.1 in (
             suc z.0,
             z.1,
-            ap (λ (u : Occurrence). u.position) y.2 ∙ ap in_later z.2,
-            z.3 ∙ ap (λ (u : Occurrence). Some (var u.name)) (sym y.2),
+            ap (λ (u : Occurrence). u.position) (sym y.2) ∙ ap in_later z.2,
+            z.3 ∙ ap (λ (u : Occurrence). Some (var u.name)) y.2,
           )
 
 -- where a variable stands, an occurrence is
 mutual
   pub part_occurs : (t : Term) (p : List ℕ) {x : ℕ} → part t p ≡ Some (var x) → Memᴰ (at_position x p) (occurrences t)
   part_occurs (var v) [] {x} e = let d : x ≡ v = cc in Memᴰ.head (ap (λ (y : ℕ). at_position y []) d)
-  part_occurs (var v) (i ∷ p) e = absurd (zero_one (cc))
-  part_occurs (con c ts) [] e = absurd (con_var e)
   part_occurs (con c ts) (i ∷ p) e = part_occurs_in ts i p e
-  part_occurs (fun f ts) [] e = absurd (fun_var e)
   part_occurs (fun f ts) (i ∷ p) e = part_occurs_in ts i p e
+  part_occurs t p e = absurd (cc)
 
   part_occurs_in : (ts : Terms) (i : ℕ) (p : List ℕ) {x : ℕ} → part_of ts i p ≡ Some (var x) → Memᴰ (at_position x (i ∷ p)) (all_occurrences ts)
-  part_occurs_in nil i p e = absurd (zero_one (cc))
-  part_occurs_in (t ▸ ts) zero p e = absurd (zero_one (cc))
-  part_occurs_in (t ▸ ts) (suc zero) p e = Memᴰ.append_left (map (moved in_later) (all_occurrences ts)) (mem_map (moved in_first) (part_occurs t p e))
-  part_occurs_in (t ▸ ts) (suc (suc i)) p e = Memᴰ.append_right (map (moved in_first) (occurrences t)) (mem_map (moved in_later) (part_occurs_in ts (suc i) p e))
+  part_occurs_in (t ▸ ts) (suc zero) p e = Memᴰ.append_left (map (moved in_later) (all_occurrences ts)) (Memᴰ.map (moved in_first) (part_occurs t p e))
+  part_occurs_in (t ▸ ts) (suc (suc i)) p e = Memᴰ.append_right (map (moved in_first) (occurrences t)) (Memᴰ.map (moved in_later) (part_occurs_in ts (suc i) p e))
+  part_occurs_in ts i p e = absurd (cc)
 
 pub part_variable : (t : Term) (p : List ℕ) {x : ℕ} → part t p ≡ Some (var x) → Memᴰ x (variables t)
-part_variable t p e = mem_map name_of (part_occurs t p e)
+part_variable t p e = Memᴰ.map name_of (part_occurs t p e)
 
 -- parts of instances
 module _ (σ : Substitution) where
   mutual
     pub part_instance : (t : Term) (p : List ℕ) {s : Term} → part t p ≡ Some s → part (instance σ t) p ≡ Some (instance σ s)
     part_instance (var v) [] {s} e = let d : var v ≡ s = cc in part_here (σ v) ∙ ap (λ (u : Term). Some (instance σ u)) d
-    part_instance (var v) (i ∷ p) e = absurd (zero_one (cc))
+    part_instance (var v) (i ∷ p) e = absurd (cc)
     part_instance (con c ts) [] {s} e = let d : con c ts ≡ s = cc in ap (λ (u : Term). Some (instance σ u)) d
     part_instance (con c ts) (i ∷ p) e = part_instances ts i p e
     part_instance (fun f ts) [] {s} e = let d : fun f ts ≡ s = cc in ap (λ (u : Term). Some (instance σ u)) d
     part_instance (fun f ts) (i ∷ p) e = part_instances ts i p e
 
     part_instances : (ts : Terms) (i : ℕ) (p : List ℕ) {s : Term} → part_of ts i p ≡ Some s → part_of (instances σ ts) i p ≡ Some (instance σ s)
-    part_instances nil i p e = absurd (zero_one (cc))
-    part_instances (t ▸ ts) zero p e = absurd (zero_one (cc))
     part_instances (t ▸ ts) (suc zero) p e = part_instance t p e
     part_instances (t ▸ ts) (suc (suc i)) p e = part_instances ts (suc i) p e
+    part_instances ts i p e = absurd (cc)
 
 -- the first position of a variable that stands in a term
 first_found : (x : ℕ) (os : List Occurrence) → Memᴰ x (map name_of os) → (p : List ℕ) × (position_of x os ≡ Some p) × Memᴰ (at_position x p) os
-first_found x [] m = absurd (Memᴰ.not-nil m)
-first_found x (o ∷ os) m = go (eqb x o.name) refl m (first_found x os)
-  where
-    go : (b : Bool) → eqb x o.name ≡ b → Memᴰ x (o.name ∷ map name_of os)
-        → (Memᴰ x (map name_of os) → (p : List ℕ) × (position_of x os ≡ Some p) × Memᴰ (at_position x p) os)
-        → (p : List ℕ) × (cond b (Some o.position) (position_of x os) ≡ Some p) × Memᴰ (at_position x p) (o ∷ os)
-    go true e n ih = (o.position, refl, Memᴰ.head (ap (λ (y : ℕ). at_position y o.position) (eqb_true x o.name e)))
-    go false e (Memᴰ.head d) ih = absurd (zero_one (let a = ap (λ (y : ℕ). eqb x y) d in let b = eqb_same x in cc))
-    go false e (Memᴰ.tail n) ih = let y = ih n in (y.0, y.1, Memᴰ.tail y.2)
+first_found x os m =
+    let y = Memᴰ.of_map name_of os m in
+    let z = mem_found (is_of x) y.1 (eq-eqb x y.0.name (sym y.2)) in
+    let w = found (is_of x) os z.1 in
+    (z.0.position, ap (option_map (λ (o : Occurrence). o.position)) z.1, Memᴰ.cast (ap (λ (n : ℕ). at_position n z.0.position) (eqb-true x z.0.name w.1)) w.0)
 
 -- the only position, where no variable stands twice
 only_found : (x : ℕ) (p : List ℕ) (os : List Occurrence) → Different (map name_of os) → Memᴰ (at_position x p) os → position_of x os ≡ Some p
@@ -106,23 +90,17 @@ only_found x p [] d m = absurd (Memᴰ.not-nil m)
 only_found x p (o ∷ os) d m = go (eqb x o.name) refl m (only_found x p os d.1)
   where
     go : (b : Bool) → eqb x o.name ≡ b → Memᴰ (at_position x p) (o ∷ os) → (Memᴰ (at_position x p) os → position_of x os ≡ Some p)
-        → cond b (Some o.position) (position_of x os) ≡ Some p
+        → option_map (λ (q : Occurrence). q.position) (cond b (Some o) (find (is_of x) os)) ≡ Some p
     go true e (Memᴰ.head h) ih = ap (λ (q : Occurrence). Some q.position) (sym h)
-    go true e (Memᴰ.tail n) ih = absurd (d.0 (subst (λ (y : ℕ). Memᴰ y (map name_of os)) (eqb_true x o.name e) (mem_map name_of n)))
-    go false e (Memᴰ.head h) ih = absurd (zero_one (let a = ap (λ (q : Occurrence). eqb x q.name) h in let b = eqb_same x in cc))
+    go true e (Memᴰ.tail n) ih = absurd (d.0 (subst (λ (y : ℕ). Memᴰ y (map name_of os)) (eqb-true x o.name e) (Memᴰ.map name_of n)))
+    go false e (Memᴰ.head h) ih = absurd (let a = ap (λ (q : Occurrence). eqb x q.name) h in let b = eq-eqb x x refl in cc)
     go false e (Memᴰ.tail n) ih = ih n
 
 pub position_stands : (x : ℕ) (os : List Occurrence) (p : List ℕ) → position_of x os ≡ Some p → Memᴰ (at_position x p) os
-position_stands x [] p e = absurd (zero_one (cc))
-position_stands x (o ∷ os) p e = go (eqb x o.name) refl e (position_stands x os p)
-  where
-    go : (b : Bool) → eqb x o.name ≡ b → cond b (Some o.position) (position_of x os) ≡ Some p → (position_of x os ≡ Some p → Memᴰ (at_position x p) os)
-        → Memᴰ (at_position x p) (o ∷ os)
-    go true d h ih =
-        let a = eqb_true x o.name d in
-        let b : p ≡ o.position = cc in
-        Memᴰ.head (ap₂ at_position a b)
-    go false d h ih = Memᴰ.tail (ih h)
+position_stands x os p e =
+    let y = mapped_some (λ (o : Occurrence). o.position) (find (is_of x) os) e in
+    let w = found (is_of x) os y.1 in
+    Memᴰ.cast (ap₂ at_position (eqb-true x y.0.name w.1) (sym y.2)) w.0
 
 -- on an instance of l the match finds the substitution
 pub matching_instance : (σ : Substitution) (l : Term) (x : ℕ) → Memᴰ x (variables l) → matching l (instance σ l) x ≡ σ x

@@ -1,21 +1,25 @@
 -- The open positions of a pattern: how a term that fits looks there, and how a graft opens one.
-use Rattle.std.proofs.Common.{◌≡◌, ℕ, zero, suc, ◌+◌, ◌≤◌, Bool, true, false, cond, ◌&&◌, List, [], ◌∷◌, ◌++◌, map, length, Some, None, sym, refl, ap, ◌∙◌, ap₂, append_assoc, arith, length-append}
+use Rattle.std.proofs.Common.{◌≡◌, ℕ, zero, suc, ◌+◌, ◌≤◌, Bool, true, false, cond, ◌&&◌, List, [], ◌∷◌, ◌++◌, map, length, Some, None, sym, refl, ap, ◌∙◌, ap₂, arith, length-append, option_map, append-nil}
+use mathlib.Core.List.Memᴰ
 use mathlib.Core.List.{map-append, map-map, Memᴰ}
 use lib.ListN.{length-map}
 use lib.Dec.{eqb-suc-suc}
 use Rattle.std.specs.Str.{bytes_eq}
 use Rattle.std.proofs.lemmas.Slice.Eq.{bytes_eq-Decides}
-use Rattle.terms.specs.Terms.{Term, var, con, fun, Terms, nil, ◌▸◌}
-use Rattle.terms.specs.Options.{passes, mapped}
+use Rattle.std.specs.List.{list_all}
+use Rattle.std.proofs.lemmas.List.Folds.{list_all-append, list_all-map}
+use Rattle.std.proofs.lemmas.List.Concat.{flat_map-append}
+use Rattle.std.proofs.lemmas.Bool.{cond_both}
+use Rattle.terms.specs.Terms.{Term, var, con, fun, Terms, ◌▸◌}
+use Rattle.terms.specs.Options.{passes}
 use Rattle.terms.specs.Positions.{part, part_of, graft, graft_in}
 use Rattle.rewriting.specs.Substitutions.{Occurrence, in_first, in_later, occurrences, all_occurrences, variables, variable_positions}
 use Rattle.rewriting.specs.Rules.{Rule, left_side}
 use Rattle.rewriting.specs.Trees.{at_rule, variables_from}
 use Rattle.rewriting.specs.FixedTree.{alike, all_alike, sole_variant, size, sizes}
-use Rattle.rewriting.specs.Growing.{is_variable, variable_at, all_variables, sole_open, below, opened}
-use Rattle.rewriting.proofs.Basics.{zero_one, con_var, fun_var, same_head_same}
-use Rattle.rewriting.proofs.Lists.{append_nil}
-use Rattle.rewriting.proofs.Occurrences.{map_mem, occurs_in}
+use Rattle.rewriting.specs.Growing.{is_variable, variable_at, sole_open, below, opened, opened_at}
+use Rattle.rewriting.proofs.Basics.{same_head_same}
+use Rattle.rewriting.proofs.Occurrences.{occurs_in}
 use Rattle.rewriting.proofs.Shapes.{Fit, fit_var, fit_con, fit_fun, Fits, fit_nil, fit_more}
 use Rattle.rewriting.proofs.Variants.{same_fn_same}
 
@@ -28,30 +32,13 @@ positions_more t ts = simp (map-append, map-map)
 
 numbered : (ts : Terms) {p : List ℕ} → Memᴰ p (positions_in ts) → (i : ℕ) × (q : List ℕ) × (p ≡ suc i ∷ q)
 numbered ts m =
-    let x = map_mem (λ (o : Occurrence). o.position) (all_occurrences ts) m in
+    let x = Memᴰ.of_map (λ (o : Occurrence). o.position) (all_occurrences ts) m in
     let y = occurs_in ts x.1 in
-    (y.0, y.1, x.2 ∙ y.2)
-
--- a test of each element
-abbrev every : {A : Type 0} → (A → Bool) → List A → Bool
-every t [] = true
-every t (x ∷ xs) = t x && every t xs
-
-every_append : {A : Type 0} (t : A → Bool) (xs ys : List A) → every t (xs ++ ys) ≡ (every t xs && every t ys)
-every_append t [] ys = refl
-every_append t (x ∷ xs) ys = go (t x) (every_append t xs ys)
-  where
-    go : (b : Bool) → every t (xs ++ ys) ≡ (every t xs && every t ys) → (b && every t (xs ++ ys)) ≡ ((b && every t xs) && every t ys)
-    go true e = e
-    go false e = refl
-
-every_map : {A B : Type 0} (t : B → Bool) (g : A → B) (xs : List A) → every t (map g xs) ≡ every (λ x. t (g x)) xs
-every_map t g [] = refl
-every_map t g (x ∷ xs) = ap (λ (b : Bool). t (g x) && b) (every_map t g xs)
+    (y.0, y.1, sym x.2 ∙ y.2)
 
 -- a term that fits is alike exactly where it has a variable at each open position
 mutual
-  alike_open : {π l : Term} → Fit π l → (t : List ℕ → Bool) → ((p : List ℕ) → t p ≡ passes is_variable (part l p)) → alike l π ≡ every t (variable_positions π)
+  alike_open : {π l : Term} → Fit π l → (t : List ℕ → Bool) → ((p : List ℕ) → t p ≡ passes is_variable (part l p)) → alike l π ≡ list_all t (variable_positions π)
   alike_open (fit_var {x = x} {t = l}) t h = rw (h []) (go l)
     where
       go : (u : Term) → alike u (var x) ≡ (passes is_variable (part u []) && true)
@@ -62,25 +49,20 @@ mutual
   alike_open (fit_fun {f = g} f) t h = rw (same_fn_same g) (all_alike_open f t (λ i p. h (suc i ∷ p)))
 
   all_alike_open : {ps ts : Terms} → Fits ps ts → (t : List ℕ → Bool) → ((i : ℕ) (p : List ℕ) → t (suc i ∷ p) ≡ passes is_variable (part_of ts (suc i) p))
-      → all_alike ts ps ≡ every t (positions_in ps)
+      → all_alike ts ps ≡ list_all t (positions_in ps)
   all_alike_open fit_nil t h = refl
   all_alike_open (fit_more {p = π} {ps = ps} f fs) t h =
-      rw (positions_more π ps, every_append t (map in_first (variable_positions π)) (map in_later (positions_in ps)), every_map t in_first, every_map t in_later)
+      rw (positions_more π ps, list_all-append t (map in_first (variable_positions π)) (map in_later (positions_in ps)), list_all-map t in_first, list_all-map t in_later)
       (ap₂ ◌&&◌ (alike_open f (λ q. t (in_first q)) (λ q. h 0 q)) (all_alike_open fs (λ q. t (in_later q)) (λ i q. h (suc i) q)))
 
-all_open : (ps : List (List ℕ)) (r : Rule) → all_variables ps r ≡ every (λ p. variable_at p r) ps
-all_open [] r = refl
-all_open (p ∷ ps) r = ap (λ (b : Bool). variable_at p r && b) (all_open ps r)
-
-pub sole_same : (π : Term) (rs : List Rule) → ((r : Rule) → Memᴰ r rs → Fit π (left_side r)) → mapped at_rule (sole_open (variable_positions π) rs) ≡ sole_variant π rs
-sole_same π [] f = refl
+pub sole_same : (π : Term) (rs : List Rule) → ((r : Rule) → Memᴰ r rs → Fit π (left_side r)) → option_map at_rule (sole_open (variable_positions π) rs) ≡ sole_variant π rs
 sole_same π (r ∷ []) f =
-    rw (all_open (variable_positions π) r, alike_open (f r (Memᴰ.head refl)) (λ p. variable_at p r) (λ p. refl)) (go (every (λ p. variable_at p r) (variable_positions π)))
+    rw (alike_open (f r (Memᴰ.head refl)) (λ p. variable_at p r) (λ p. refl)) (go (list_all (λ p. variable_at p r) (variable_positions π)))
   where
-    go : (b : Bool) → mapped at_rule (cond b (Some r) None) ≡ cond b (Some (at_rule r)) None
+    go : (b : Bool) → option_map at_rule (cond b (Some r) None) ≡ cond b (Some (at_rule r)) None
     go true = refl
     go false = refl
-sole_same π (r ∷ q ∷ rs) f = refl
+sole_same π rs f = refl
 
 -- a term that fits has no fewer letters than the pattern
 some_letter : (t : Term) → 1 ≤ size t + length (occurrences t)
@@ -111,17 +93,16 @@ fit_letters {π} {t} f = simp length-map (fit_occurrences f)
 mutual
   pub position_short : (t : Term) (p : List ℕ) {s : Term} → part t p ≡ Some s → length p ≤ size t
   position_short (var v) [] e = omega arith
-  position_short (var v) (i ∷ p) e = absurd (zero_one (cc))
+  position_short (var v) (i ∷ p) e = absurd (cc)
   position_short (con c ts) [] e = omega arith
   position_short (con c ts) (i ∷ p) e = let h = position_short_in ts i p e in omega arith
   position_short (fun f ts) [] e = omega arith
   position_short (fun f ts) (i ∷ p) e = let h = position_short_in ts i p e in omega arith
 
   position_short_in : (ts : Terms) (i : ℕ) (p : List ℕ) {s : Term} → part_of ts i p ≡ Some s → length p ≤ sizes ts
-  position_short_in nil i p e = absurd (zero_one (cc))
-  position_short_in (t ▸ ts) zero p e = absurd (zero_one (cc))
   position_short_in (t ▸ ts) (suc zero) p e = let h = position_short t p e in omega arith
   position_short_in (t ▸ ts) (suc (suc i)) p e = let h = position_short_in ts (suc i) p e in omega arith
+  position_short_in ts i p e = absurd (cc)
 
 -- new variables in a row: their positions, and no symbol
 below_later : (i m : ℕ) → map in_later (below [] i m) ≡ below [] (suc i) m
@@ -150,30 +131,25 @@ opened_moved g p s h (q ∷ qs) m = rw (s q, map-append, opened_moved g p s h qs
     go true = sym (below_moved g p h 1 m)
     go false = refl
 
-opened_append : (qs ns : List (List ℕ)) (p : List ℕ) (m : ℕ) → opened (qs ++ ns) p m ≡ opened qs p m ++ opened ns p m
-opened_append [] ns p m = refl
-opened_append (q ∷ qs) ns p m = rw (opened_append qs ns p m, append_assoc) refl
-
 opened_none : (qs : List (List ℕ)) (p : List ℕ) (m : ℕ) → ((q : List ℕ) → Memᴰ q qs → q ≡ p → ⊥) → opened qs p m ≡ qs
 opened_none [] p m h = refl
-opened_none (q ∷ qs) p m h = go (bytes_eq q p) refl (opened_none qs p m (λ r n. h r (Memᴰ.tail n)))
-  where
-    go : (b : Bool) → bytes_eq q p ≡ b → opened qs p m ≡ qs → cond b (below p 1 m) (q ∷ []) ++ opened qs p m ≡ q ∷ qs
-    go true e ih = absurd (h q (Memᴰ.head refl) ((bytes_eq-Decides q p).0 e))
-    go false e ih = ap (λ (ps : List (List ℕ)). q ∷ ps) ih
+opened_none (q ∷ qs) p m h =
+    cond_both (bytes_eq q p) (below p 1 m) (q ∷ []) (λ (os : List (List ℕ)). os ++ opened qs p m ≡ q ∷ qs)
+    (λ e. absurd (h q (Memᴰ.head refl) ((bytes_eq-Decides q p).0 e)))
+    (λ e. ap (λ (ps : List (List ℕ)). q ∷ ps) (opened_none qs p m (λ r n. h r (Memᴰ.tail n))))
 
 opened_more : (t : Term) (ts : Terms) (p : List ℕ) (m : ℕ) → opened (positions_in (t ▸ ts)) p m ≡ opened (map in_first (variable_positions t)) p m ++ opened (map in_later (positions_in ts)) p m
-opened_more t ts p m = rw (positions_more t ts, opened_append (map in_first (variable_positions t)) (map in_later (positions_in ts)) p m)
+opened_more t ts p m = rw (positions_more t ts, flat_map-append (opened_at p m) (map in_first (variable_positions t)) (map in_later (positions_in ts)))
 
 -- positions in the first argument and in later ones
 first_alone : (qs : List (List ℕ)) (i : ℕ) (p q : List ℕ) → Memᴰ q (map in_first qs) → q ≡ suc (suc i) ∷ p → ⊥
-first_alone qs i p q n e = let x = map_mem in_first qs n in let a = x.2 in let h : 1 ≡ suc (suc i) = cc in omega arith
+first_alone qs i p q n e = let x = Memᴰ.of_map in_first qs n in let a = x.2 in let h : 1 ≡ suc (suc i) = cc in omega arith
 
 later_alone : (ts : Terms) (p q : List ℕ) → Memᴰ q (map in_later (positions_in ts)) → q ≡ 1 ∷ p → ⊥
 later_alone ts p q n e =
-    let x = map_mem in_later (positions_in ts) n in
+    let x = Memᴰ.of_map in_later (positions_in ts) n in
     let y = numbered ts x.1 in
-    let a = x.2 ∙ ap in_later y.2 in
+    let a = sym x.2 ∙ ap in_later y.2 in
     let h : suc (suc y.0) ≡ 1 = cc in
     omega arith
 
@@ -185,16 +161,12 @@ later_same i p (j ∷ q) = rw (eqb-suc-suc j i)
 module _ (ρ : Term) (m : ℕ) (row : variable_positions ρ ≡ below [] 1 m) where
   mutual
     pub opened_graft : (π : Term) (p : List ℕ) {x : ℕ} → part π p ≡ Some (var x) → variable_positions (graft π p ρ) ≡ opened (variable_positions π) p m
-    opened_graft (var v) [] e = row ∙ sym (append_nil (below [] 1 m))
-    opened_graft (var v) (i ∷ p) e = absurd (zero_one (cc))
-    opened_graft (con c ts) [] e = absurd (con_var e)
+    opened_graft (var v) [] e = row ∙ sym (append-nil (below [] 1 m))
     opened_graft (con c ts) (i ∷ p) e = opened_graft_in ts i p e
-    opened_graft (fun f ts) [] e = absurd (fun_var e)
     opened_graft (fun f ts) (i ∷ p) e = opened_graft_in ts i p e
+    opened_graft t p e = absurd (cc)
 
     opened_graft_in : (ts : Terms) (i : ℕ) (p : List ℕ) {x : ℕ} → part_of ts i p ≡ Some (var x) → positions_in (graft_in ts i p ρ) ≡ opened (positions_in ts) (i ∷ p) m
-    opened_graft_in nil i p e = absurd (zero_one (cc))
-    opened_graft_in (t ▸ ts) zero p e = absurd (zero_one (cc))
     opened_graft_in (t ▸ ts) (suc zero) p e =
         positions_more (graft t p ρ) ts
         ∙ ap₂ ◌++◌ (ap (map in_first) (opened_graft t p e) ∙ sym (opened_moved in_first p (λ q. refl) (λ i. refl) (variable_positions t) m))
@@ -205,3 +177,4 @@ module _ (ρ : Term) (m : ℕ) (row : variable_positions ρ ≡ below [] 1 m) wh
         ∙ ap₂ ◌++◌ (sym (opened_none (map in_first (variable_positions t)) (suc (suc i) ∷ p) m (first_alone (variable_positions t) i p)))
         (ap (map in_later) (opened_graft_in ts (suc i) p e) ∙ sym (opened_moved in_later (suc i ∷ p) (later_same (suc i) p) (λ j. refl) (positions_in ts) m))
         ∙ sym (opened_more t ts (suc (suc i) ∷ p) m)
+    opened_graft_in ts i p e = absurd (cc)

@@ -1,8 +1,9 @@
 -- What the rules that remain pay: each rule goes to one child at most, and pays one less there.
-use Rattle.std.proofs.Common.{◌≡◌, ℕ, suc, ◌+◌, ◌-◌, ◌<◌, ◌≤◌, Bool, true, false, cond, List, [], ◌∷◌, length, refl, ap, subst, arith}
+use Rattle.std.proofs.Common.{◌≡◌, ℕ, suc, ◌+◌, ◌-◌, ◌<◌, ◌≤◌, false, List, [], ◌∷◌, length, refl, ap, subst, arith, filter}
 use mathlib.Core.List.{Memᴰ}
+use Rattle.std.proofs.lemmas.Bool.{cond_both}
 use Rattle.terms.specs.Terms.{Head}
-use Rattle.rewriting.specs.Rules.{Rule, left_side, kept, Different}
+use Rattle.rewriting.specs.Rules.{Rule, left_side, Different}
 use Rattle.rewriting.specs.FixedTree.{has_at, size}
 use Rattle.rewriting.specs.Growing.{paid, paid_under}
 use Rattle.rewriting.proofs.Deals.{has_constructor, constructor_not}
@@ -32,18 +33,17 @@ module _ (most m : ℕ) (p : List ℕ) where
   -- a rule that has none of some constructors pays under none of them
   under_other : (r : Rule) (rs : List Rule) (cs : List Head) → ((c : Head) → Memᴰ c cs → has_at p c r ≡ false) → paid_under most m p (r ∷ rs) cs ≡ paid_under most m p rs cs
   under_other r rs [] h = refl
-  under_other r rs (c ∷ cs) h = rw (h c (Memᴰ.head refl)) (ap (λ (k : ℕ). paid most m (kept (has_at p c) rs) + k) (under_other r rs cs (λ d n. h d (Memᴰ.tail n))))
+  under_other r rs (c ∷ cs) h = rw (h c (Memᴰ.head refl)) (ap (λ (k : ℕ). paid most m (filter (has_at p c) rs) + k) (under_other r rs cs (λ d n. h d (Memᴰ.tail n))))
 
   -- and else under one alone
   under_once : (r : Rule) (rs : List Rule) (cs : List Head) → Different cs → paid_under most m p (r ∷ rs) cs ≤ (size (left_side r) + m - most) + paid_under most m p rs cs
   under_once r rs [] d = omega arith
-  under_once r rs (c ∷ cs) d = go (has_at p c r) refl (under_once r rs cs d.1)
-    where
-      go : (b : Bool) → has_at p c r ≡ b → paid_under most m p (r ∷ rs) cs ≤ (size (left_side r) + m - most) + paid_under most m p rs cs
-          → paid most m (cond b (r ∷ kept (has_at p c) rs) (kept (has_at p c) rs)) + paid_under most m p (r ∷ rs) cs
-          ≤ (size (left_side r) + m - most) + (paid most m (kept (has_at p c) rs) + paid_under most m p rs cs)
-      go true e h = let a = under_other r rs cs (λ z l. constructor_not p z c r (has_constructor p c r e) (λ i. d.0 (subst (λ (y : Head). Memᴰ y cs) i l))) in omega arith
-      go false e h = omega arith
+  under_once r rs (c ∷ cs) d =
+      let h = under_once r rs cs d.1 in
+      cond_both (has_at p c r) (r ∷ filter (has_at p c) rs) (filter (has_at p c) rs)
+      (λ (qs : List Rule). paid most m qs + paid_under most m p (r ∷ rs) cs ≤ (size (left_side r) + m - most) + (paid most m (filter (has_at p c) rs) + paid_under most m p rs cs))
+      (λ e. let a = under_other r rs cs (λ z l. constructor_not p z c r (has_constructor p c r e) (λ i. d.0 (subst (λ (y : Head). Memᴰ y cs) i l))) in omega arith)
+      (λ e. omega arith)
 
   under_all : (rs : List Rule) (cs : List Head) → Different cs → paid_under most m p rs cs ≤ paid most m rs
   under_all [] cs d = let h = under_none cs in omega arith

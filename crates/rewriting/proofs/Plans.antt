@@ -6,7 +6,6 @@ use Rattle.terms.specs.Positions.{part, part_of, graft, graft_in}
 use Rattle.rewriting.specs.Substitutions.{Substitution, instance, instances}
 use Rattle.rewriting.specs.Steps.{Cause}
 use Rattle.rewriting.specs.Strategy.{Found, stuck, contract, look}
-use Rattle.rewriting.proofs.Basics.{zero_one, con_var, fun_var}
 use Rattle.rewriting.proofs.Positions.{part_here, graft_here, graft_same}
 use Rattle.rewriting.proofs.Blanks.{fresh}
 
@@ -39,43 +38,41 @@ pub data Both (R : Term → Term → Type 0) : Option Term → Option Term → T
   both : {t u : Term} → R t u → Both R (Some t) (Some u)
 
 pub both_some : {R : Term → Term → Type 0} {o q : Option Term} {u : Term} → Both R o q → q ≡ Some u → (t : Term) × (o ≡ Some t) × R t u
-both_some neither e = absurd (zero_one (cc))
+both_some neither e = absurd (cc)
 both_some {R} {u = v} (both {t = t} {u = u} r) e = let d : u ≡ v = cc in (t, refl, subst (R t) d r)
 
 module _ {R : Term → Term → Type 0} {Rs : Terms → Terms → Type 0} where
   mutual
     pub over_part : {π t u : Term} → Over R Rs π t u → (p : List ℕ) {x : ℕ} → part π p ≡ Some (var x) → Both R (part t p) (part u p)
     over_part (over_var {t = t} {u = u} r) [] e = rw (part_here t, part_here u) (both r)
-    over_part (over_var r) (i ∷ p) e = absurd (zero_one (cc))
-    over_part (over_con os) [] e = absurd (con_var e)
+    over_part (over_var r) (i ∷ p) e = absurd (cc)
+    over_part (over_con os) [] e = absurd (cc)
     over_part (over_con os) (i ∷ p) e = overs_part os i p e
-    over_part (over_fun os) [] e = absurd (fun_var e)
+    over_part (over_fun os) [] e = absurd (cc)
     over_part (over_fun os) (i ∷ p) e = overs_part os i p e
 
     overs_part : {ps ts us : Terms} → Overs R Rs ps ts us → (i : ℕ) (p : List ℕ) {x : ℕ} → part_of ps i p ≡ Some (var x) → Both R (part_of ts i p) (part_of us i p)
-    overs_part (over_rest r) i p e = absurd (zero_one (cc))
     overs_part over_short i p e = neither
-    overs_part (over_more o os) zero p e = absurd (zero_one (cc))
     overs_part (over_more o os) (suc zero) p e = over_part o p e
     overs_part (over_more o os) (suc (suc i)) p e = overs_part os (suc i) p e
+    overs_part f i p e = absurd (cc)
 
   mutual
     pub over_graft : {π t u ρ a b : Term} → Over R Rs π t u → (p : List ℕ) {x : ℕ} → part π p ≡ Some (var x) → Over R Rs ρ a b
         → Over R Rs (graft π p ρ) (graft t p a) (graft u p b)
     over_graft {a = a} {b = b} (over_var {t = t} {u = u} r) [] e o = rw (graft_here t a, graft_here u b) o
-    over_graft (over_var r) (i ∷ p) e o = absurd (zero_one (cc))
-    over_graft (over_con os) [] e o = absurd (con_var e)
+    over_graft (over_var r) (i ∷ p) e o = absurd (cc)
+    over_graft (over_con os) [] e o = absurd (cc)
     over_graft (over_con os) (i ∷ p) e o = over_con (overs_graft os i p e o)
-    over_graft (over_fun os) [] e o = absurd (fun_var e)
+    over_graft (over_fun os) [] e o = absurd (cc)
     over_graft (over_fun os) (i ∷ p) e o = over_fun (overs_graft os i p e o)
 
     overs_graft : {ρ a b : Term} {ps ts us : Terms} → Overs R Rs ps ts us → (i : ℕ) (p : List ℕ) {x : ℕ} → part_of ps i p ≡ Some (var x) → Over R Rs ρ a b
         → Overs R Rs (graft_in ps i p ρ) (graft_in ts i p a) (graft_in us i p b)
-    overs_graft (over_rest r) i p e o = absurd (zero_one (cc))
     overs_graft over_short i p e o = over_short
-    overs_graft (over_more q qs) zero p e o = absurd (zero_one (cc))
     overs_graft (over_more q qs) (suc zero) p e o = over_more (over_graft q p e o) qs
     overs_graft (over_more q qs) (suc (suc i)) p e o = over_more q (overs_graft qs (suc i) p e o)
+    overs_graft f i p e o = absurd (cc)
 
 -- contractions at the root first, then inside
 module _ (plan : Fn → Plan) where
@@ -126,17 +123,16 @@ module _ {plan : Fn → Plan} where
   mutual
     pub st_graft : (t : Term) (p : List ℕ) {x y : Term} → part t p ≡ Some x → St plan x y → St plan t (graft t p y)
     st_graft (var v) [] {y = y} e r = subst (λ z. St plan z y) (cc) r
-    st_graft (var v) (i ∷ p) e r = absurd (zero_one (cc))
+    st_graft (var v) (i ∷ p) e r = absurd (cc)
     st_graft (con c ts) [] {y = y} e r = subst (λ z. St plan z y) (cc) r
     st_graft (con c ts) (i ∷ p) e r = st_con (sts_graft ts i p e r)
     st_graft (fun f ts) [] {y = y} e r = subst (λ z. St plan z y) (cc) r
     st_graft (fun f ts) (i ∷ p) e r = st_fun (sts_graft ts i p e r)
 
     sts_graft : (ts : Terms) (i : ℕ) (p : List ℕ) {x y : Term} → part_of ts i p ≡ Some x → St plan x y → Sts plan ts (graft_in ts i p y)
-    sts_graft nil i p e r = absurd (zero_one (cc))
-    sts_graft (t ▸ ts) zero p e r = absurd (zero_one (cc))
     sts_graft (t ▸ ts) (suc zero) p e r = st_more (st_graft t p e r) (sts_refl ts)
     sts_graft (t ▸ ts) (suc (suc i)) p e r = st_more (st_refl t) (sts_graft ts (suc i) p e r)
+    sts_graft ts i p e r = absurd (cc)
 
   -- reduction of instances
   mutual
@@ -156,16 +152,16 @@ module _ {plan : Fn → Plan} where
 
   -- what the contractum evaluates to, the call evaluates to
   hit_ev : (T : Plan) (t : Term) {b : Cause} {u : Term} {c : Head} {ts : Terms} → seek T t ≡ contract b u → Ev plan u c ts → EvW plan T t c ts
-  hit_ev no_plan t e v = absurd (zero_one (cc))
+  hit_ev no_plan t e v = absurd (cc)
   hit_ev (leaf b g) t {u = u} {c = c} {ts = ts} e v = let d : u ≡ g t = cc in ev_leaf (subst (λ z. Ev plan z c ts) d v)
   hit_ev (split p k) t {b} {u} {c} {ts} e v = go (part t p) refl e (λ d h. hit_ev (k d) t h v)
     where
       go : (o : Option Term) → part t p ≡ o → look o p (λ d. seek (k d) t) ≡ contract b u
           → ((d : Head) → seek (k d) t ≡ contract b u → EvW plan (k d) t c ts) → EvW plan (split p k) t c ts
-      go None q h ih = absurd (zero_one (cc))
-      go (Some (var x)) q h ih = absurd (zero_one (cc))
+      go None q h ih = absurd (cc)
+      go (Some (var x)) q h ih = absurd (cc)
       go (Some (con d bs)) q h ih = ev_split q ev_con (rw (graft_same t p q) (ih d h))
-      go (Some (fun f ss)) q h ih = absurd (zero_one (cc))
+      go (Some (fun f ss)) q h ih = absurd (cc)
 
   to_con : {t : Term} {c : Head} {us : Terms} → St plan t (con c us) → Upto plan t c us
   to_con (st_con rs) = (_, ev_con, rs)

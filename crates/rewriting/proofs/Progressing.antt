@@ -1,7 +1,8 @@
 -- With complete trees a closed sort-correct term is a value or φ has a move.
-use Rattle.std.proofs.Common.{◌≡◌, ℕ, zero, suc, ◌≤◌, Bool, true, false, cond, eqb, ◌⊎◌, List, [], ◌∷◌, Some, sym, refl, ap, subst, inl, inr, arith}
+use Rattle.std.proofs.Common.{◌≡◌, ℕ, zero, suc, ◌≤◌, eqb, ◌⊎◌, List, [], ◌∷◌, Some, sym, refl, subst, inl, inr, arith}
 use mathlib.Core.List.Memᴰ
 use mathlib.Core.List.{Memᴰ}
+use Rattle.std.proofs.lemmas.Bool.{cond_both}
 use Rattle.numbers.specs.Meaning.{Meaning}
 use Rattle.terms.specs.Terms.{Head, cell, symbol, Fn, plus, minus, atmost, own, Term, var, con, fun, Terms, nil, ◌▸◌, Closed, AllClosed, Value, Values}
 use Rattle.terms.specs.Signatures.{Signature}
@@ -14,7 +15,7 @@ use Rattle.rewriting.specs.Trees.{Node, at_rule, branch, Nodes, no_child, child,
 use Rattle.rewriting.specs.FixedTree.{same_head, fixed_tree}
 use Rattle.rewriting.specs.Strategy.{Found, contract, inside, walk, walk_child, operate, walk_if, Move, from_above, follow, depth, outermost, first_outermost, find, move_in, φ}
 use Rattle.rewriting.specs.Promises.{HasCompleteTrees, Progress}
-use Rattle.rewriting.proofs.Basics.{zero_one, same_head_same, same_head_true, fun_var}
+use Rattle.rewriting.proofs.Basics.{same_head_true, mem_other}
 use Rattle.rewriting.proofs.Lists.{kept_mem, perm_mem}
 use Rattle.rewriting.proofs.Sorts.{sorted_part, sorted_closed}
 use Rattle.rewriting.proofs.Shapes.{Fit, fit_fun, fit_fresh, fit_part}
@@ -57,14 +58,14 @@ module _ (S : Signature) (f : Fn) (ts : Terms) (k : ℕ) (sorted : Sorted S clos
   mutual
     walk_goes : (n : Node) (ps : Terms) → Nameless S n (fun f ps) → NamelessComplete S n (fun f ps) → Sorted S as_sort (fun f ps) k → Fit (fun f ps) s → Goes_on s (walk n s)
     walk_goes (at_rule r) ps t c g h = inl (_, _, refl)
-    walk_goes (branch [] ns) ps t c g h = absurd (fun_var t.1)
+    walk_goes (branch [] ns) ps t c g h = absurd (cc t.1)
     walk_goes (branch (i ∷ q) ns) ps t c g h =
         let x = fit_part h (i ∷ q) t.1 in
         go x.0 x.1 (λ b bs e m. walk_child_goes ns i q t.0 ps t.1 t.4 c.1 g h b bs e m)
       where
         go : (x : Term) → part s (i ∷ q) ≡ Some x → ((b : Head) (bs : Terms) → part s (i ∷ q) ≡ Some (con b bs) → Memᴰ b (heads ns) → Goes_on s (walk_child ns b s))
             → Goes_on s (walk (branch (i ∷ q) ns) s)
-        go (var v) e ih = let y = fit_sorted S closed h k g sorted (i ∷ q) t.1 e in absurd (zero_one (cc))
+        go (var v) e ih = let y = fit_sorted S closed h k g sorted (i ∷ q) t.1 e in absurd (cc)
         go (con b bs) e ih = let y = fit_child S closed h k g sorted (i ∷ q) t.1 e in rw e (ih b bs e (c.0 b t.0 t.1 y.0))
         go (fun a us) e ih = inr (i, q, a, us, rw e refl, e)
 
@@ -73,20 +74,15 @@ module _ (S : Signature) (f : Fn) (ts : Terms) (k : ℕ) (sorted : Sorted S clos
         → Sorted S as_sort (fun f ps) k → Fit (fun f ps) s → (b : Head) (bs : Terms) → part s (i ∷ q) ≡ Some (con b bs) → Memᴰ b (heads ns) → Goes_on s (walk_child ns b s)
     walk_child_goes no_child i q j ps d t c g h b bs e m = absurd (Memᴰ.not-nil m)
     walk_child_goes (child a n ns) i q j ps d t c g h b bs e m =
-        go (same_head b a) refl m
-        (λ x. walk_goes n _ t.1 c.0 (graft_sorted S (fun f ps) k (i ∷ q) a g d t.0) (subst (λ (z : Head). Fit (graft (fun f ps) (i ∷ q) (over_blank S z)) s) x (fit_child S closed h k g sorted (i ∷ q) d e).1))
-        (λ x. walk_child_goes ns i q j ps d t.2 c.1 g h b bs e x)
-      where
-        go : (y : Bool) → same_head b a ≡ y → Memᴰ b (a ∷ heads ns) → (b ≡ a → Goes_on s (walk n s)) → (Memᴰ b (heads ns) → Goes_on s (walk_child ns b s))
-            → Goes_on s (cond y (walk n s) (walk_child ns b s))
-        go true x l u v = u (same_head_true b a x)
-        go false x (Memᴰ.head w) u v = absurd (zero_one (let y = ap (same_head b) w in let z = same_head_same b in cc))
-        go false x (Memᴰ.tail l) u v = v l
+        cond_both (same_head b a) (walk n s) (walk_child ns b s) (Goes_on s)
+        (λ x. walk_goes n _ t.1 c.0 (graft_sorted S (fun f ps) k (i ∷ q) a g d t.0)
+        (subst (λ (z : Head). Fit (graft (fun f ps) (i ∷ q) (over_blank S z)) s) (same_head_true b a x) (fit_child S closed h k g sorted (i ∷ q) d e).1))
+        (λ x. walk_child_goes ns i q j ps d t.2 c.1 g h b bs e (mem_other x m))
 
 -- numbers are cells or calls
 module _ (S : Signature) (proper : Proper S) where
   number_is : (x : Term) → Sorted S closed x 0 → ((n : ℕ) × (xs : Terms) × (x ≡ con (cell n) xs)) ⊎ ((f : Fn) × (xs : Terms) × (x ≡ fun f xs))
-  number_is (var v) h = absurd (zero_one (cc))
+  number_is (var v) h = absurd (cc)
   number_is (con (cell n) xs) h = inl (n, xs, refl)
   number_is (con (symbol z) xs) h = absurd (proper.cells_alone z h.0 (sym h.1))
   number_is (fun f xs) h = inr (f, xs, refl)

@@ -4,7 +4,6 @@ use Rattle.terms.specs.Terms.{Head, Fn, Term, var, con, fun, Terms, nil, ◌▸�
 use Rattle.terms.specs.Positions.{part, part_of, graft, graft_in}
 use Rattle.rewriting.specs.Steps.{Cause}
 use Rattle.rewriting.specs.Strategy.{contract, inside, outermost, first_outermost}
-use Rattle.rewriting.proofs.Basics.{zero_one, con_var, fun_var}
 use Rattle.rewriting.proofs.Positions.{part_graft, graft_same, graft_twice}
 use Rattle.rewriting.proofs.Plans.{Plan, split, seek, Over, over_var, over_con, over_fun, Overs, over_rest, over_short, over_more, over_graft, Ev, ev_con, ev_fun, EvW, ev_leaf, ev_split, Serves, St, Sts, st_nil, st_more, expand}
 use Rattle.rewriting.proofs.Blanks.{fresh}
@@ -49,20 +48,17 @@ Unders ps ts us i p d = Overs Any Anys ps ts us × ((z : Term) → part_of ts i 
 mutual
   ungraft : (π : Term) (p : List ℕ) (d : Head) (vs : Terms) {t u : Term} {x : ℕ} → part π p ≡ Some (var x) → BeginAs (graft π p (con d vs)) t u → Under π t u p d
   ungraft (var v) [] d vs e (over_con {us = us} os) = (over_var tt, λ z q. (us, refl))
-  ungraft (var v) (i ∷ p) d vs e o = absurd (zero_one (cc))
-  ungraft (con c ps) [] d vs e o = absurd (con_var e)
   ungraft (con c ps) (i ∷ p) d vs e (over_con os) = let x = ungrafts ps i p d vs e os in (over_con x.0, x.1)
-  ungraft (fun f ps) [] d vs e o = absurd (fun_var e)
   ungraft (fun f ps) (i ∷ p) d vs e (over_fun os) = let x = ungrafts ps i p d vs e os in (over_fun x.0, x.1)
+  ungraft t p d vs e o = absurd (cc)
 
   ungrafts : (ps : Terms) (i : ℕ) (p : List ℕ) (d : Head) (vs : Terms) {ts us : Terms} {x : ℕ} → part_of ps i p ≡ Some (var x) → Overs Any Anys (graft_in ps i p (con d vs)) ts us
       → Unders ps ts us i p d
-  ungrafts nil i p d vs e os = absurd (zero_one (cc))
-  ungrafts (q ▸ ps) zero p d vs e os = absurd (zero_one (cc))
-  ungrafts (q ▸ ps) (suc zero) p d vs e over_short = (over_short, λ z h. absurd (zero_one (cc)))
+  ungrafts (q ▸ ps) (suc zero) p d vs e over_short = (over_short, λ z h. absurd (cc))
   ungrafts (q ▸ ps) (suc zero) p d vs e (over_more o os) = let x = ungraft q p d vs e o in (over_more x.0 os, x.1)
-  ungrafts (q ▸ ps) (suc (suc i)) p d vs e over_short = (over_short, λ z h. absurd (zero_one (cc)))
+  ungrafts (q ▸ ps) (suc (suc i)) p d vs e over_short = (over_short, λ z h. absurd (cc))
   ungrafts (q ▸ ps) (suc (suc i)) p d vs e (over_more o os) = let x = ungrafts ps (suc i) p d vs e os in (over_more o x.0, x.1)
+  ungrafts ts i p d vs e os = absurd (cc)
 
 module _ (plan : Fn → Plan) where
   -- the strategy at a call

@@ -1,11 +1,12 @@
 -- Terms that have the shape of a pattern.
 use Rattle.std.proofs.Common.{◌≡◌, ℕ, zero, suc, ◌+◌, ◌≤◌, true, List, [], ◌∷◌, length, Some, Option, refl, ap, subst, ap₂, arith}
+use Rattle.std.proofs.lemmas.Bool.{and_parts}
 use Rattle.terms.specs.Terms.{Head, Fn, Term, var, con, fun, Terms, nil, ◌▸◌, count}
 use Rattle.terms.specs.Positions.{part, part_of, graft, graft_in}
 use Rattle.rewriting.specs.Substitutions.{Substitution, instance, instances, matching}
 use Rattle.rewriting.specs.Rules.{Linear}
 use Rattle.rewriting.specs.FixedTree.{same_head, same_fn, alike, all_alike, size, sizes}
-use Rattle.rewriting.proofs.Basics.{zero_one, con_var, fun_var, and_true, same_head_true, same_fn_true}
+use Rattle.rewriting.proofs.Basics.{same_head_true, same_fn_true}
 use Rattle.rewriting.proofs.Positions.{part_here, none_at_zero}
 use Rattle.rewriting.proofs.Occurrences.{matching_linear}
 use Rattle.rewriting.proofs.Blanks.{fresh}
@@ -31,50 +32,45 @@ fit_fresh (k ∷ ks) (t ▸ ts) e = fit_more fit_var (fit_fresh ks ts (omega ari
 mutual
   pub fit_part : {π t : Term} → Fit π t → (p : List ℕ) {x : ℕ} → part π p ≡ Some (var x) → (s : Term) × (part t p ≡ Some s)
   fit_part (fit_var {t = t}) [] e = (t, part_here t)
-  fit_part fit_var (i ∷ p) e = absurd (zero_one (cc))
-  fit_part (fit_con h) [] e = absurd (con_var e)
+  fit_part fit_var (i ∷ p) e = absurd (cc)
+  fit_part (fit_con h) [] e = absurd (cc)
   fit_part (fit_con h) (i ∷ p) e = fits_part h i p e
-  fit_part (fit_fun h) [] e = absurd (fun_var e)
+  fit_part (fit_fun h) [] e = absurd (cc)
   fit_part (fit_fun h) (i ∷ p) e = fits_part h i p e
 
   fits_part : {ps ts : Terms} → Fits ps ts → (i : ℕ) (p : List ℕ) {x : ℕ} → part_of ps i p ≡ Some (var x) → (s : Term) × (part_of ts i p ≡ Some s)
-  fits_part fit_nil i p e = absurd (zero_one (cc))
-  fits_part (fit_more h hs) zero p e = absurd (zero_one (cc))
   fits_part (fit_more h hs) (suc zero) p e = fit_part h p e
   fits_part (fit_more h hs) (suc (suc i)) p e = fits_part hs (suc i) p e
+  fits_part f i p e = absurd (cc)
 
 -- what fits the part there fits the pattern grafted there
 mutual
   pub fit_graft : {π t : Term} → Fit π t → (p : List ℕ) {x : ℕ} {ρ s : Term} → part π p ≡ Some (var x) → part t p ≡ Some s → Fit ρ s → Fit (graft π p ρ) t
   fit_graft (fit_var {t = t}) [] {ρ = ρ} {s = s} e d f = let q = part_here t in let h : s ≡ t = cc in subst (Fit ρ) h f
-  fit_graft fit_var (i ∷ p) e d f = absurd (zero_one (cc))
-  fit_graft (fit_con h) [] e d f = absurd (con_var e)
+  fit_graft fit_var (i ∷ p) e d f = absurd (cc)
+  fit_graft (fit_con h) [] e d f = absurd (cc)
   fit_graft (fit_con h) (i ∷ p) e d f = fit_con (fits_graft h i p e d f)
-  fit_graft (fit_fun h) [] e d f = absurd (fun_var e)
+  fit_graft (fit_fun h) [] e d f = absurd (cc)
   fit_graft (fit_fun h) (i ∷ p) e d f = fit_fun (fits_graft h i p e d f)
 
   fits_graft : {ps ts : Terms} → Fits ps ts → (i : ℕ) (p : List ℕ) {x : ℕ} {ρ s : Term} → part_of ps i p ≡ Some (var x) → part_of ts i p ≡ Some s → Fit ρ s → Fits (graft_in ps i p ρ) ts
-  fits_graft fit_nil i p e d f = absurd (zero_one (cc))
-  fits_graft (fit_more h hs) zero p e d f = absurd (zero_one (cc))
   fits_graft (fit_more h hs) (suc zero) p e d f = fit_more (fit_graft h p e d f) hs
   fits_graft (fit_more h hs) (suc (suc i)) p e d f = fit_more h (fits_graft hs (suc i) p e d f)
+  fits_graft h i p e d f = absurd (cc)
 
 -- and the other way round
 mutual
   pub fit_ungraft : (π : Term) (p : List ℕ) (ρ : Term) {t : Term} {x : ℕ} → part π p ≡ Some (var x) → Fit (graft π p ρ) t → Fit π t × ((s : Term) × (part t p ≡ Some s) × Fit ρ s)
   fit_ungraft (var v) [] ρ {t} e f = (fit_var, (t, part_here t, f))
-  fit_ungraft (var v) (i ∷ p) ρ e f = absurd (zero_one (cc))
-  fit_ungraft (con c ps) [] ρ e f = absurd (con_var e)
   fit_ungraft (con c ps) (i ∷ p) ρ e (fit_con h) = let x = fits_ungraft ps i p ρ e h in (fit_con x.0, x.1)
-  fit_ungraft (fun g ps) [] ρ e f = absurd (fun_var e)
   fit_ungraft (fun g ps) (i ∷ p) ρ e (fit_fun h) = let x = fits_ungraft ps i p ρ e h in (fit_fun x.0, x.1)
+  fit_ungraft t p ρ e f = absurd (cc)
 
   fits_ungraft : (ps : Terms) (i : ℕ) (p : List ℕ) (ρ : Term) {ts : Terms} {x : ℕ} → part_of ps i p ≡ Some (var x) → Fits (graft_in ps i p ρ) ts
       → Fits ps ts × ((s : Term) × (part_of ts i p ≡ Some s) × Fit ρ s)
-  fits_ungraft nil i p ρ e f = absurd (zero_one (cc))
-  fits_ungraft (q ▸ ps) zero p ρ e f = absurd (zero_one (cc))
   fits_ungraft (q ▸ ps) (suc zero) p ρ e (fit_more h hs) = let x = fit_ungraft q p ρ e h in (fit_more x.0 hs, x.1)
   fits_ungraft (q ▸ ps) (suc (suc i)) p ρ e (fit_more h hs) = let x = fits_ungraft ps (suc i) p ρ e hs in (fit_more h x.0, x.1)
+  fits_ungraft ts i p ρ e f = absurd (cc)
 
 -- a pattern has no more symbols than what fits it
 mutual
@@ -90,17 +86,14 @@ mutual
 mutual
   pub size_graft : (π : Term) (p : List ℕ) (ρ : Term) {x : ℕ} → part π p ≡ Some (var x) → size (graft π p ρ) ≡ size π + size ρ
   size_graft (var v) [] ρ e = omega arith
-  size_graft (var v) (i ∷ p) ρ e = absurd (zero_one (cc))
-  size_graft (con c ps) [] ρ e = absurd (con_var e)
   size_graft (con c ps) (i ∷ p) ρ e = let h = sizes_graft ps i p ρ e in omega arith
-  size_graft (fun f ps) [] ρ e = absurd (fun_var e)
   size_graft (fun f ps) (i ∷ p) ρ e = let h = sizes_graft ps i p ρ e in omega arith
+  size_graft t p ρ e = absurd (cc)
 
   sizes_graft : (ps : Terms) (i : ℕ) (p : List ℕ) (ρ : Term) {x : ℕ} → part_of ps i p ≡ Some (var x) → sizes (graft_in ps i p ρ) ≡ sizes ps + size ρ
-  sizes_graft nil i p ρ e = absurd (zero_one (cc))
-  sizes_graft (q ▸ ps) zero p ρ e = absurd (zero_one (cc))
   sizes_graft (q ▸ ps) (suc zero) p ρ e = let h = size_graft q p ρ e in omega arith
   sizes_graft (q ▸ ps) (suc (suc i)) p ρ e = let h = sizes_graft ps (suc i) p ρ e in omega arith
+  sizes_graft ts i p ρ e = absurd (cc)
 
 pub sizes_fresh : (ks : List ℕ) → sizes (fresh ks) ≡ 0
 sizes_fresh [] = refl
@@ -110,44 +103,34 @@ sizes_fresh (k ∷ ks) = let h = sizes_fresh ks in omega arith
 mutual
   pub alike_fit : (l π : Term) {t : Term} → alike l π ≡ true → Fit π t → Fit l t
   alike_fit (var x) π e f = fit_var
-  alike_fit (con c ls) (var y) e f = absurd (zero_one (cc))
   alike_fit (con c ls) (con d ps) e (fit_con h) =
-      let x = and_true (same_head c d) (all_alike ls ps) e in
+      let x = and_parts (same_head c d) (all_alike ls ps) e in
       rw (same_head_true c d x.0) (fit_con (all_alike_fit ls ps x.1 h))
-  alike_fit (con c ls) (fun g ps) e f = absurd (zero_one (cc))
-  alike_fit (fun g ls) (var y) e f = absurd (zero_one (cc))
-  alike_fit (fun g ls) (con d ps) e f = absurd (zero_one (cc))
   alike_fit (fun g ls) (fun h ps) e (fit_fun k) =
-      let x = and_true (same_fn g h) (all_alike ls ps) e in
+      let x = and_parts (same_fn g h) (all_alike ls ps) e in
       rw (same_fn_true g h x.0) (fit_fun (all_alike_fit ls ps x.1 k))
+  alike_fit l π e f = absurd (cc)
 
   all_alike_fit : (ls ps : Terms) {ts : Terms} → all_alike ls ps ≡ true → Fits ps ts → Fits ls ts
   all_alike_fit nil nil e f = f
-  all_alike_fit nil (p ▸ ps) e f = absurd (zero_one (cc))
-  all_alike_fit (l ▸ ls) nil e f = absurd (zero_one (cc))
-  all_alike_fit (l ▸ ls) (p ▸ ps) e (fit_more h hs) = let x = and_true (alike l p) (all_alike ls ps) e in fit_more (alike_fit l p x.0 h) (all_alike_fit ls ps x.1 hs)
+  all_alike_fit (l ▸ ls) (p ▸ ps) e (fit_more h hs) = let x = and_parts (alike l p) (all_alike ls ps) e in fit_more (alike_fit l p x.0 h) (all_alike_fit ls ps x.1 hs)
+  all_alike_fit ls ps e f = absurd (cc)
 
 mutual
   pub fit_alike : (l π : Term) → alike l π ≡ true → Fit π l
   fit_alike (var x) (var y) e = fit_var
-  fit_alike (var x) (con d ps) e = absurd (zero_one (cc))
-  fit_alike (var x) (fun g ps) e = absurd (zero_one (cc))
-  fit_alike (con c ls) (var y) e = absurd (zero_one (cc))
   fit_alike (con c ls) (con d ps) e =
-      let x = and_true (same_head c d) (all_alike ls ps) e in
+      let x = and_parts (same_head c d) (all_alike ls ps) e in
       rw (same_head_true c d x.0) (fit_con (fits_alike ls ps x.1))
-  fit_alike (con c ls) (fun g ps) e = absurd (zero_one (cc))
-  fit_alike (fun g ls) (var y) e = absurd (zero_one (cc))
-  fit_alike (fun g ls) (con d ps) e = absurd (zero_one (cc))
   fit_alike (fun g ls) (fun h ps) e =
-      let x = and_true (same_fn g h) (all_alike ls ps) e in
+      let x = and_parts (same_fn g h) (all_alike ls ps) e in
       rw (same_fn_true g h x.0) (fit_fun (fits_alike ls ps x.1))
+  fit_alike l π e = absurd (cc)
 
   fits_alike : (ls ps : Terms) → all_alike ls ps ≡ true → Fits ps ls
   fits_alike nil nil e = fit_nil
-  fits_alike nil (p ▸ ps) e = absurd (zero_one (cc))
-  fits_alike (l ▸ ls) nil e = absurd (zero_one (cc))
-  fits_alike (l ▸ ls) (p ▸ ps) e = let x = and_true (alike l p) (all_alike ls ps) e in fit_more (fit_alike l p x.0) (fits_alike ls ps x.1)
+  fits_alike (l ▸ ls) (p ▸ ps) e = let x = and_parts (alike l p) (all_alike ls ps) e in fit_more (fit_alike l p x.0) (fits_alike ls ps x.1)
+  fits_alike ls ps e = absurd (cc)
 
 -- each has a variable where the other has one
 abbrev BothVariables : Option Term → Option Term → Type 0
@@ -156,25 +139,19 @@ BothVariables a b = ((x : ℕ) → a ≡ Some (var x) → (y : ℕ) × (b ≡ So
 mutual
   pub alike_part : (l π : Term) → alike l π ≡ true → (p : List ℕ) → BothVariables (part l p) (part π p)
   alike_part (var x) (var y) e [] = ((λ z d. (y, refl)), λ z d. (x, refl))
-  alike_part (var x) (var y) e (i ∷ p) = ((λ z d. absurd (zero_one (cc))), λ z d. absurd (zero_one (cc)))
-  alike_part (var x) (con d ps) e p = absurd (zero_one (cc))
-  alike_part (var x) (fun g ps) e p = absurd (zero_one (cc))
-  alike_part (con c ls) (var y) e p = absurd (zero_one (cc))
-  alike_part (con c ls) (con d ps) e [] = ((λ z q. absurd (con_var q)), λ z q. absurd (con_var q))
-  alike_part (con c ls) (con d ps) e (i ∷ p) = all_alike_part ls ps (and_true (same_head c d) (all_alike ls ps) e).1 i p
-  alike_part (con c ls) (fun g ps) e p = absurd (zero_one (cc))
-  alike_part (fun g ls) (var y) e p = absurd (zero_one (cc))
-  alike_part (fun g ls) (con d ps) e p = absurd (zero_one (cc))
-  alike_part (fun g ls) (fun h ps) e [] = ((λ z q. absurd (fun_var q)), λ z q. absurd (fun_var q))
-  alike_part (fun g ls) (fun h ps) e (i ∷ p) = all_alike_part ls ps (and_true (same_fn g h) (all_alike ls ps) e).1 i p
+  alike_part (var x) (var y) e (i ∷ p) = ((λ z d. absurd (cc)), λ z d. absurd (cc))
+  alike_part (con c ls) (con d ps) e [] = ((λ z q. absurd (cc)), λ z q. absurd (cc))
+  alike_part (con c ls) (con d ps) e (i ∷ p) = all_alike_part ls ps (and_parts (same_head c d) (all_alike ls ps) e).1 i p
+  alike_part (fun g ls) (fun h ps) e [] = ((λ z q. absurd (cc)), λ z q. absurd (cc))
+  alike_part (fun g ls) (fun h ps) e (i ∷ p) = all_alike_part ls ps (and_parts (same_fn g h) (all_alike ls ps) e).1 i p
+  alike_part l π e p = absurd (cc)
 
   all_alike_part : (ls ps : Terms) → all_alike ls ps ≡ true → (i : ℕ) (p : List ℕ) → BothVariables (part_of ls i p) (part_of ps i p)
-  all_alike_part nil nil e i p = ((λ z d. absurd (zero_one (cc))), λ z d. absurd (zero_one (cc)))
-  all_alike_part nil (q ▸ ps) e i p = absurd (zero_one (cc))
-  all_alike_part (l ▸ ls) nil e i p = absurd (zero_one (cc))
-  all_alike_part (l ▸ ls) (q ▸ ps) e zero p = ((λ z d. absurd (zero_one (cc))), λ z d. absurd (zero_one (cc)))
-  all_alike_part (l ▸ ls) (q ▸ ps) e (suc zero) p = alike_part l q (and_true (alike l q) (all_alike ls ps) e).0 p
-  all_alike_part (l ▸ ls) (q ▸ ps) e (suc (suc i)) p = all_alike_part ls ps (and_true (alike l q) (all_alike ls ps) e).1 (suc i) p
+  all_alike_part nil nil e i p = ((λ z d. absurd (cc)), λ z d. absurd (cc))
+  all_alike_part (l ▸ ls) (q ▸ ps) e zero p = ((λ z d. absurd (cc)), λ z d. absurd (cc))
+  all_alike_part (l ▸ ls) (q ▸ ps) e (suc zero) p = alike_part l q (and_parts (alike l q) (all_alike ls ps) e).0 p
+  all_alike_part (l ▸ ls) (q ▸ ps) e (suc (suc i)) p = all_alike_part ls ps (and_parts (alike l q) (all_alike ls ps) e).1 (suc i) p
+  all_alike_part ls ps e i p = absurd (cc)
 
 -- what fits is an instance under the substitution that has its parts
 mutual

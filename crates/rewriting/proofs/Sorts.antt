@@ -10,7 +10,6 @@ use Rattle.rewriting.specs.Substitutions.{Substitution, instance, instances}
 use Rattle.rewriting.specs.Rules.{left_side, Book, SortCorrectRules, LawfulRules, Proper}
 use Rattle.rewriting.specs.Steps.{Cause, Contracts, a_rule, a_sum, a_difference, a_comparison, Step, number, truth}
 use Rattle.rewriting.specs.Promises.{Ground, StepsKeepSorts}
-use Rattle.rewriting.proofs.Basics.{zero_one}
 use Rattle.rewriting.proofs.Occurrences.{Each, Eachs, each, part_variable, variable_part, part_instance}
 
 -- a part has a sort, and another term of that sort may take its place
@@ -19,7 +18,7 @@ module _ (S : Signature) (e : Environment) where
     pub sorted_part : (t : Term) (k : ℕ) (p : List ℕ) {s : Term} → Sorted S e t k → part t p ≡ Some s
         → (j : ℕ) × Sorted S e s j × ((u : Term) → Sorted S e u j → Sorted S e (graft t p u) k)
     sorted_part (var v) k [] {s} h d = let q : var v ≡ s = cc in (k, subst (λ (y : Term). Sorted S e y k) q h, λ u g. g)
-    sorted_part (var v) k (i ∷ p) h d = absurd (zero_one (cc))
+    sorted_part (var v) k (i ∷ p) h d = absurd (cc)
     sorted_part (con c ts) k [] {s} h d = let q : con c ts ≡ s = cc in (k, subst (λ (y : Term). Sorted S e y k) q h, λ u g. g)
     sorted_part (con c ts) k (i ∷ p) h d = let x = all_sorted_part ts (head_args S c) i p h.2 d in (x.0, x.1, λ u g. (h.0, h.1, x.2 u g))
     sorted_part (fun f ts) k [] {s} h d = let q : fun f ts ≡ s = cc in (k, subst (λ (y : Term). Sorted S e y k) q h, λ u g. g)
@@ -27,17 +26,16 @@ module _ (S : Signature) (e : Environment) where
 
     all_sorted_part : (ts : Terms) (ks : List ℕ) (i : ℕ) (p : List ℕ) {s : Term} → AllSorted S e ts ks → part_of ts i p ≡ Some s
         → (j : ℕ) × Sorted S e s j × ((u : Term) → Sorted S e u j → AllSorted S e (graft_in ts i p u) ks)
-    all_sorted_part nil ks i p h d = absurd (zero_one (cc))
     all_sorted_part (t ▸ ts) [] i p h d = absurd h
-    all_sorted_part (t ▸ ts) (k ∷ ks) zero p h d = absurd (zero_one (cc))
     all_sorted_part (t ▸ ts) (k ∷ ks) (suc zero) p h d = let x = sorted_part t k p h.0 d in (x.0, x.1, λ u g. (x.2 u g, h.1))
     all_sorted_part (t ▸ ts) (k ∷ ks) (suc (suc i)) p h d = let x = all_sorted_part ts ks (suc i) p h.1 d in (x.0, x.1, λ u g. (h.0, x.2 u g))
+    all_sorted_part ts ks i p h d = absurd (cc)
 
 module _ (lawful : ℕ → Bool) where
   mutual
     pub lawful_part : (t : Term) (p : List ℕ) {s : Term} → Lawful lawful t → part t p ≡ Some s → Lawful lawful s × ((u : Term) → Lawful lawful u → Lawful lawful (graft t p u))
     lawful_part (var v) [] {s} h d = let q : var v ≡ s = cc in (subst (Lawful lawful) q h, λ u g. g)
-    lawful_part (var v) (i ∷ p) h d = absurd (zero_one (cc))
+    lawful_part (var v) (i ∷ p) h d = absurd (cc)
     lawful_part (con c ts) [] {s} h d = let q : con c ts ≡ s = cc in (subst (Lawful lawful) q h, λ u g. g)
     lawful_part (con c ts) (i ∷ p) h d = let x = all_lawful_part ts i p h.1 d in (x.0, λ u g. (h.0, x.1 u g))
     lawful_part (fun f ts) [] {s} h d = let q : fun f ts ≡ s = cc in (subst (Lawful lawful) q h, λ u g. g)
@@ -45,10 +43,9 @@ module _ (lawful : ℕ → Bool) where
 
     all_lawful_part : (ts : Terms) (i : ℕ) (p : List ℕ) {s : Term} → AllLawful lawful ts → part_of ts i p ≡ Some s
         → Lawful lawful s × ((u : Term) → Lawful lawful u → AllLawful lawful (graft_in ts i p u))
-    all_lawful_part nil i p h d = absurd (zero_one (cc))
-    all_lawful_part (t ▸ ts) zero p h d = absurd (zero_one (cc))
     all_lawful_part (t ▸ ts) (suc zero) p h d = let x = lawful_part t p h.0 d in (x.0, λ u g. (x.1 u g, h.1))
     all_lawful_part (t ▸ ts) (suc (suc i)) p h d = let x = all_lawful_part ts (suc i) p h.1 d in (x.0, λ u g. (h.0, x.1 u g))
+    all_lawful_part ts i p h d = absurd (cc)
 
   mutual
     instance_lawful : (σ : Substitution) (t : Term) → Lawful lawful t → Each (λ x. Lawful lawful (σ x)) t → Lawful lawful (instance σ t)
@@ -64,7 +61,7 @@ module _ (S : Signature) where
   -- what is sort-correct without variables' sorts is closed
   mutual
     pub sorted_closed : (t : Term) (k : ℕ) → Sorted S closed t k → Closed t
-    sorted_closed (var v) k h = zero_one (cc)
+    sorted_closed (var v) k h = cc
     sorted_closed (con c ts) k h = all_sorted_closed ts (head_args S c) h.2
     sorted_closed (fun f ts) k h = all_sorted_closed ts (fn_args S f) h.2
 
@@ -81,18 +78,17 @@ module _ (S : Signature) where
     mutual
       instance_due : (l : Term) (k : ℕ) → Sorted S e l k → Sorted S f (instance σ l) k → (p : List ℕ) {x : ℕ} → part l p ≡ Some (var x) → Due x
       instance_due (var v) k h g [] {x} d = let q : v ≡ x = cc in subst Due q (k, h, g)
-      instance_due (var v) k h g (i ∷ p) d = absurd (zero_one (cc))
-      instance_due (con c ls) k h g [] {x} d = absurd (zero_one (let q : con c ls ≡ var x = cc in cc))
+      instance_due (var v) k h g (i ∷ p) d = absurd (cc)
+      instance_due (con c ls) k h g [] {x} d = absurd (let q : con c ls ≡ var x = cc in cc)
       instance_due (con c ls) k h g (i ∷ p) d = instances_due ls (head_args S c) h.2 g.2 i p d
-      instance_due (fun c ls) k h g [] {x} d = absurd (zero_one (let q : fun c ls ≡ var x = cc in cc))
+      instance_due (fun c ls) k h g [] {x} d = absurd (let q : fun c ls ≡ var x = cc in cc)
       instance_due (fun c ls) k h g (i ∷ p) d = instances_due ls (fn_args S c) h.2 g.2 i p d
 
       instances_due : (ls : Terms) (ks : List ℕ) → AllSorted S e ls ks → AllSorted S f (instances σ ls) ks → (i : ℕ) (p : List ℕ) {x : ℕ} → part_of ls i p ≡ Some (var x) → Due x
-      instances_due nil ks h g i p d = absurd (zero_one (cc))
       instances_due (l ▸ ls) [] h g i p d = absurd h
-      instances_due (l ▸ ls) (k ∷ ks) h g zero p d = absurd (zero_one (cc))
       instances_due (l ▸ ls) (k ∷ ks) h g (suc zero) p d = instance_due l k h.0 g.0 p d
       instances_due (l ▸ ls) (k ∷ ks) h g (suc (suc i)) p d = instances_due ls ks h.1 g.1 (suc i) p d
+      instances_due ts ks h g i p d = absurd (cc)
 
     mutual
       instance_sorted : (r : Term) (k : ℕ) → Sorted S e r k → Each Due r → Sorted S f (instance σ r) k

@@ -1,10 +1,10 @@
 -- φ's move is a step.
-use Rattle.std.proofs.Common.{◌≡◌, ℕ, zero, suc, Bool, true, false, cond, eqb, List, [], ◌∷◌, ◌++◌, Some, None, Option, sym, refl, ap, ◌∙◌, subst, ap₂}
+use Rattle.std.proofs.Common.{◌≡◌, ℕ, zero, suc, eqb, List, [], ◌∷◌, ◌++◌, Some, None, Option, sym, refl, ap, ◌∙◌, subst, ap₂, option_map}
 use mathlib.Core.List.Memᴰ
 use mathlib.Core.List.{Memᴰ}
+use Rattle.std.proofs.lemmas.Bool.{cond_both}
 use Rattle.numbers.specs.Meaning.{Meaning}
 use Rattle.terms.specs.Terms.{Head, cell, symbol, Fn, plus, minus, atmost, own, Term, var, con, fun, Terms, nil, ◌▸◌}
-use Rattle.terms.specs.Options.{mapped}
 use Rattle.terms.specs.Signatures.{Signature}
 use Rattle.terms.specs.Roots.{fn_args}
 use Rattle.terms.specs.Sorting.{Environment, Sorted, AllSorted}
@@ -16,7 +16,7 @@ use Rattle.rewriting.specs.Trees.{Node, at_rule, branch, Nodes, no_child, child,
 use Rattle.rewriting.specs.FixedTree.{same_head, fixed_tree}
 use Rattle.rewriting.specs.Strategy.{Found, stuck, contract, inside, look, walk, walk_child, operate, walk_if, Move, from_above, move_at, follow, depth, outermost, find, move_in}
 use Rattle.rewriting.specs.Promises.{MovesAreSteps}
-use Rattle.rewriting.proofs.Basics.{zero_one, onward_some, mapped_some, same_head_true}
+use Rattle.rewriting.proofs.Basics.{onward_some, mapped_some, same_head_true}
 use Rattle.rewriting.proofs.Lists.{kept_mem, mem_perm}
 use Rattle.rewriting.proofs.Positions.{part_here, graft_here, part_join, graft_join}
 use Rattle.rewriting.proofs.Sorts.{sorted_part}
@@ -41,14 +41,14 @@ cell_alone S e n (t ▸ ts) k h = absurd h.2
 operate_is : (S : Signature) (e : Environment) (g : ℕ → ℕ → Term) (f : Fn) (x y : Term) (j k : ℕ) → Sorted S e x j → Sorted S e y k → {c : Cause} {u : Term}
     → operate g (fun f (x ▸ y ▸ nil)) ≡ contract c u
     → (m : ℕ) × (n : ℕ) × (x ≡ number m) × (y ≡ number n) × (c ≡ by_kind) × (u ≡ g m n)
-operate_is S e g f (var v) y j k h i d = absurd (zero_one (cc))
-operate_is S e g f (fun b xs) y j k h i d = absurd (zero_one (cc))
-operate_is S e g f (con c xs) (var w) j k h i d = absurd (zero_one (cc))
-operate_is S e g f (con c xs) (fun b ys) j k h i d = absurd (zero_one (cc))
+operate_is S e g f (var v) y j k h i d = absurd (cc)
+operate_is S e g f (fun b xs) y j k h i d = absurd (cc)
+operate_is S e g f (con c xs) (var w) j k h i d = absurd (cc)
+operate_is S e g f (con c xs) (fun b ys) j k h i d = absurd (cc)
 operate_is S e g f (con (cell m) xs) (con (cell n) ys) j k h i d = (m, n, cell_alone S e m xs j h, cell_alone S e n ys k i, cc, cc)
-operate_is S e g f (con (cell m) xs) (con (symbol s) ys) j k h i d = absurd (zero_one (cc))
-operate_is S e g f (con (symbol s) xs) (con (cell n) ys) j k h i d = absurd (zero_one (cc))
-operate_is S e g f (con (symbol s) xs) (con (symbol z) ys) j k h i d = absurd (zero_one (cc))
+operate_is S e g f (con (cell m) xs) (con (symbol s) ys) j k h i d = absurd (cc)
+operate_is S e g f (con (symbol s) xs) (con (cell n) ys) j k h i d = absurd (cc)
+operate_is S e g f (con (symbol s) xs) (con (symbol z) ys) j k h i d = absurd (cc)
 
 operation_is : (S : Signature) (e : Environment) (g : ℕ → ℕ → Term) (f : Fn) (ts : Terms) → AllSorted S e ts (0 ∷ 0 ∷ []) → {c : Cause} {u : Term} → operate g (fun f ts) ≡ contract c u
     → (m : ℕ) × (n : ℕ) × (fun f ts ≡ at_numbers f m n) × (c ≡ by_kind) × (u ≡ g m n)
@@ -72,24 +72,23 @@ module _ (S : Signature) (e : Environment) (s : Term) (k : ℕ) (sorted : Sorted
       where
         go : (o : Option Term) → part s p ≡ o → look o p (λ b. walk_child ns b s) ≡ contract c u
             → ((b : Head) (bs : Terms) → part s p ≡ Some (con b bs) → walk_child ns b s ≡ contract c u → ByARule (all_rules_in ns) c u) → ByARule (all_rules_in ns) c u
-        go None q h ih = absurd (zero_one (cc))
-        go (Some (var x)) q h ih = absurd (zero_one (cc))
+        go None q h ih = absurd (cc)
+        go (Some (var x)) q h ih = absurd (cc)
         go (Some (con b bs)) q h ih = ih b bs q h
-        go (Some (fun b bs)) q h ih = absurd (zero_one (cc))
+        go (Some (fun b bs)) q h ih = absurd (cc)
 
     walk_child_is : (ns : Nodes) (p : List ℕ) (j : ℕ) (π : Term) → part π p ≡ Some (var j) → NamelessAll S ns p j π → Sorted S as_sort π k → Fit π s → (b : Head) (bs : Terms)
         → part s p ≡ Some (con b bs)
         → {c : Cause} {u : Term} → walk_child ns b s ≡ contract c u → ByARule (all_rules_in ns) c u
-    walk_child_is no_child p j π d t g f b bs q h = absurd (zero_one (cc))
+    walk_child_is no_child p j π d t g f b bs q h = absurd (cc)
     walk_child_is (child a n ns) p j π d t g f b bs q {c} {u} h =
-        go (same_head b a) refl h
-        (λ i l. walk_is n (graft π p (over_blank S a)) t.1 (graft_sorted S π k p a g d t.0) (subst (λ (z : Head). Fit (graft π p (over_blank S z)) s) i (fit_child S e f k g sorted p d q).1) l)
-        (λ l. walk_child_is ns p j π d t.2 g f b bs q l)
-      where
-        go : (x : Bool) → same_head b a ≡ x → cond x (walk n s) (walk_child ns b s) ≡ contract c u → (b ≡ a → walk n s ≡ contract c u → ByARule (rules_in n) c u)
-            → (walk_child ns b s ≡ contract c u → ByARule (all_rules_in ns) c u) → ByARule (rules_in n ++ all_rules_in ns) c u
-        go true i l y z = let w = y (same_head_true b a i) l in (w.0, Memᴰ.append_left (all_rules_in ns) w.1, w.2, w.3, w.4)
-        go false i l y z = let w = z l in (w.0, Memᴰ.append_right (rules_in n) w.1, w.2, w.3, w.4)
+        cond_both (same_head b a) (walk n s) (walk_child ns b s) (λ (F : Found). F ≡ contract c u → ByARule (rules_in n ++ all_rules_in ns) c u)
+        (λ i l.
+        let x = fit_child S e f k g sorted p d q in
+        let w = walk_is n (graft π p (over_blank S a)) t.1 (graft_sorted S π k p a g d t.0) (subst (λ (z : Head). Fit (graft π p (over_blank S z)) s) (same_head_true b a i) x.1) l in
+        (w.0, Memᴰ.append_left (all_rules_in ns) w.1, w.2, w.3, w.4))
+        (λ i l. let w = walk_child_is ns p j π d t.2 g f b bs q l in (w.0, Memᴰ.append_right (rules_in n) w.1, w.2, w.3, w.4))
+        h
 
 module _ (M : Meaning) (B : Book) (proper : Proper B.signature) (sorted : SortCorrectRules B) (linear : LeftLinear B) (e : Environment) where
   abbrev S : Signature
@@ -100,7 +99,7 @@ module _ (M : Meaning) (B : Book) (proper : Proper B.signature) (sorted : SortCo
 
   own_contracts : (f : ℕ) (ts : Terms) (k : ℕ) → Sorted S e (fun (own f) ts) k → (o : Option Node) → fixed_tree B f ≡ o → {c : Cause} {u : Term}
       → walk_if o (fun (own f) ts) ≡ contract c u → Contracts M B c (fun (own f) ts) u
-  own_contracts f ts k h None q d = absurd (zero_one (cc))
+  own_contracts f ts k h None q d = absurd (cc)
   own_contracts f ts k h (Some n) q {c} {u} d =
       let r = fixed_rule B f q in
       let x = fixed_is B f (ok f) r.0 r.1 n q in
@@ -109,8 +108,6 @@ module _ (M : Meaning) (B : Book) (proper : Proper B.signature) (sorted : SortCo
       (a_rule y.0 (matching (left_side y.0) (fun (own f) ts)) (kept_mem (λ q. eqb q.function f) B.rules (mem_perm x.2 y.1)).0 (sym y.4) y.3)
 
   find_contracts : (t : Term) (k : ℕ) → Sorted S e t k → {c : Cause} {u : Term} → find M B t ≡ contract c u → Contracts M B c t u
-  find_contracts (var x) k h d = absurd (zero_one (cc))
-  find_contracts (con b ts) k h d = absurd (zero_one (cc))
   find_contracts (fun plus ts) k h {c} {u} d =
       let p = proper.built_in_first 0 _ refl in
       let x = operation_is S e (sum M) plus ts (rw p at h.2) d in
@@ -124,6 +121,7 @@ module _ (M : Meaning) (B : Book) (proper : Proper B.signature) (sorted : SortCo
       let x = operation_is S e (comparison M) atmost ts (rw p at h.2) d in
       rw x.3 (a_comparison x.0 x.1 x.2 x.4)
   find_contracts (fun (own f) ts) k h d = own_contracts f ts k h (fixed_tree B f) refl d
+  find_contracts t k h d = absurd (cc)
 
   -- a move is a step
   abbrev IsStep : Term → Move → Type 0
@@ -141,17 +139,17 @@ module _ (M : Meaning) (B : Book) (proper : Proper B.signature) (sorted : SortCo
   move_at_step : (t : Term) (k : ℕ) (p : List ℕ) (go : Term → Option Move) → Sorted S e t k → ((s : Term) (j : ℕ) → Sorted S e s j → (m : Move) → go s ≡ Some m → IsStep s m)
       → (m : Move) → move_at t p go ≡ Some m → IsStep t m
   move_at_step t k p go h f m d =
-      let x = onward_some (part t p) (λ s. mapped (from_above t p) (go s)) d in
+      let x = onward_some (part t p) (λ s. option_map (from_above t p) (go s)) d in
       let y = mapped_some (from_above t p) (go x.0) x.2 in
       let z = sorted_part S e t k p h x.1 in
       subst (IsStep t) y.2 (step_above t p y.0 x.1 (f x.0 z.0 z.1 y.0 y.1))
 
   move_in_step : (n : ℕ) (t : Term) (k : ℕ) → Sorted S e t k → (m : Move) → move_in M B n t ≡ Some m → IsStep t m
-  move_in_step zero t k h m d = absurd (zero_one (cc))
+  move_in_step zero t k h m d = absurd (cc)
   move_in_step (suc n) t k h m d = go (find M B t) refl d (move_in_step n)
     where
       go : (F : Found) → find M B t ≡ F → follow t F (move_in M B n) ≡ Some m → ((s : Term) (j : ℕ) → Sorted S e s j → (w : Move) → move_in M B n s ≡ Some w → IsStep s w) → IsStep t m
-      go stuck q l ih = absurd (zero_one (cc))
+      go stuck q l ih = absurd (cc)
       go (contract c u) q l ih =
           let w : Move = record { position = []; cause = c; next = u } in
           let i : w ≡ m = cc in

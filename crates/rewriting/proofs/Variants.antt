@@ -1,5 +1,5 @@
 -- Patterns with names: no variable stands twice in them, and variants are alike.
-use Rattle.std.proofs.Common.{◌≡◌, ℕ, zero, suc, ◌+◌, ◌<◌, ◌≤◌, true, ◌⊎◌, List, [], ◌∷◌, ◌++◌, length, Some, sym, refl, ap, ◌∙◌, subst, ap₂, inl, inr, arith}
+use Rattle.std.proofs.Common.{◌≡◌, ℕ, zero, suc, ◌+◌, ◌<◌, ◌≤◌, true, ◌⊎◌, List, [], ◌∷◌, ◌++◌, length, Some, sym, refl, ap, ◌∙◌, subst, ap₂, inl, inr, arith, eq-eqb}
 use Rattle.terms.specs.Terms.{Head, Fn, plus, minus, atmost, own, Term, var, con, fun, Terms, nil, ◌▸◌}
 use Rattle.terms.specs.Signatures.{Signature}
 use Rattle.terms.specs.Roots.{head_args, fn_args}
@@ -8,33 +8,28 @@ use Rattle.rewriting.specs.Substitutions.{Substitution, instance, instances, mat
 use Rattle.rewriting.specs.Rules.{Linear}
 use Rattle.rewriting.specs.Trees.{Variant, variables_from, unused, all_unused, call_of, refined}
 use Rattle.rewriting.specs.FixedTree.{same_fn, alike, all_alike}
-use Rattle.rewriting.proofs.Basics.{zero_one, con_var, fun_var, same_head_same, eqb_same}
+use Rattle.rewriting.proofs.Basics.{same_head_same}
 use Rattle.rewriting.proofs.Occurrences.{part_instance}
 use Rattle.rewriting.proofs.Shapes.{Fit, fit_var, fit_con, fit_fun, Fits, fit_nil, fit_more, alike_fit, fit_alike, alike_part, matches}
 
 -- variables in a row: the name tells the argument
 row_variable : (x n i : ℕ) (p : List ℕ) {y : ℕ} → part_of (variables_from x n) i p ≡ Some (var y) → (p ≡ []) × (y + 1 ≡ x + i) × (x ≤ y)
-row_variable x zero i p e = absurd (zero_one (cc))
-row_variable x (suc n) zero p e = absurd (zero_one (cc))
 row_variable x (suc n) (suc zero) [] {y} e = let d : x ≡ y = cc in (refl, omega arith, omega arith)
-row_variable x (suc n) (suc zero) (j ∷ p) e = absurd (zero_one (cc))
 row_variable x (suc n) (suc (suc i)) p e = let h = row_variable (suc x) n (suc i) p e in let a = h.1 in let b = h.2 in (h.0, omega arith, omega arith)
+row_variable x n i p e = absurd (cc)
 
 -- every variable is below the unused ones
 mutual
   below_unused : (t : Term) (p : List ℕ) {y : ℕ} → part t p ≡ Some (var y) → y < unused t
   below_unused (var v) [] {y} e = let d : v ≡ y = cc in omega arith
-  below_unused (var v) (i ∷ p) e = absurd (zero_one (cc))
-  below_unused (con c ts) [] e = absurd (con_var e)
   below_unused (con c ts) (i ∷ p) e = all_below_unused ts i p e
-  below_unused (fun f ts) [] e = absurd (fun_var e)
   below_unused (fun f ts) (i ∷ p) e = all_below_unused ts i p e
+  below_unused t p e = absurd (cc)
 
   all_below_unused : (ts : Terms) (i : ℕ) (p : List ℕ) {y : ℕ} → part_of ts i p ≡ Some (var y) → y < all_unused ts
-  all_below_unused nil i p e = absurd (zero_one (cc))
-  all_below_unused (t ▸ ts) zero p e = absurd (zero_one (cc))
   all_below_unused (t ▸ ts) (suc zero) p e = let h = below_unused t p e in omega arith
   all_below_unused (t ▸ ts) (suc (suc i)) p e = let h = all_below_unused ts (suc i) p e in omega arith
+  all_below_unused ts i p e = absurd (cc)
 
 -- a variable of a graft stood there before, or is one of what was grafted
 mutual
@@ -43,26 +38,24 @@ mutual
   graft_variable (var v) [] ρ p e = inr (p, refl, e)
   graft_variable (var v) (i ∷ r) ρ p e = inl e
   graft_variable (con c ts) [] ρ p e = inr (p, refl, e)
-  graft_variable (con c ts) (i ∷ r) ρ [] e = absurd (con_var e)
   graft_variable (con c ts) (i ∷ r) ρ (j ∷ p) e = graft_variables ts i r ρ j p e
   graft_variable (fun f ts) [] ρ p e = inr (p, refl, e)
-  graft_variable (fun f ts) (i ∷ r) ρ [] e = absurd (fun_var e)
   graft_variable (fun f ts) (i ∷ r) ρ (j ∷ p) e = graft_variables ts i r ρ j p e
+  graft_variable t r ρ p e = absurd (cc)
 
   graft_variables : (ts : Terms) (i : ℕ) (r : List ℕ) (ρ : Term) (j : ℕ) (p : List ℕ) {y : ℕ} → part_of (graft_in ts i r ρ) j p ≡ Some (var y)
       → (part_of ts j p ≡ Some (var y)) ⊎ ((q : List ℕ) × (j ∷ p ≡ i ∷ (r ++ q)) × (part ρ q ≡ Some (var y)))
   graft_variables nil i r ρ j p e = inl e
   graft_variables (t ▸ ts) zero r ρ j p e = inl e
-  graft_variables (t ▸ ts) (suc zero) r ρ zero p e = absurd (zero_one (cc))
   graft_variables (t ▸ ts) (suc zero) r ρ (suc zero) p e = elim (graft_variable t r ρ p e) [ inl h ↦ inl h | inr x ↦ inr (x.0, ap (λ (z : List ℕ). 1 ∷ z) x.1, x.2) ]
   graft_variables (t ▸ ts) (suc zero) r ρ (suc (suc j)) p e = inl e
-  graft_variables (t ▸ ts) (suc (suc i)) r ρ zero p e = absurd (zero_one (cc))
   graft_variables (t ▸ ts) (suc (suc i)) r ρ (suc zero) p e = inl e
   graft_variables (t ▸ ts) (suc (suc i)) r ρ (suc (suc j)) p e =
       elim (graft_variables ts (suc i) r ρ (suc j) p e) [
         | inl h ↦ inl h
         | inr x ↦ inr (x.0, (let a = x.1 in let b : j ≡ i = cc in let d : p ≡ r ++ x.0 = cc in ap₂ (λ (m : ℕ) (z : List ℕ). suc (suc m) ∷ z) b d), x.2)
       ]
+  graft_variables ts i r ρ j p e = absurd (cc)
 
 row_linear : (x n : ℕ) (y : ℕ) (i j : ℕ) (p q : List ℕ) → part_of (variables_from x n) i p ≡ Some (var y) → part_of (variables_from x n) j q ≡ Some (var y) → i ∷ p ≡ j ∷ q
 row_linear x n y i j p q d e =
@@ -74,19 +67,17 @@ row_linear x n y i j p q d e =
     ap₂ (λ (m : ℕ) (z : List ℕ). m ∷ z) k (a.0 ∙ sym b.0)
 
 con_linear : (c : Head) (x n : ℕ) → Linear (con c (variables_from x n))
-con_linear c x n y [] q d e = absurd (con_var d)
-con_linear c x n y (i ∷ p) [] d e = absurd (con_var e)
 con_linear c x n y (i ∷ p) (j ∷ q) d e = row_linear x n y i j p q d e
+con_linear c x n y p q d e = absurd (cc)
 
 con_new : (c : Head) (x n : ℕ) (q : List ℕ) {y : ℕ} → part (con c (variables_from x n)) q ≡ Some (var y) → x ≤ y
-con_new c x n [] e = absurd (con_var e)
+con_new c x n [] e = absurd (cc)
 con_new c x n (i ∷ q) e = (row_variable x n i q e).2
 
 module _ (S : Signature) where
   pub linear_call : (f : ℕ) → Linear (call_of S f)
-  linear_call f y [] q d e = absurd (fun_var d)
-  linear_call f y (i ∷ p) [] d e = absurd (fun_var e)
   linear_call f y (i ∷ p) (j ∷ q) d e = row_linear 0 (length (fn_args S (own f))) y i j p q d e
+  linear_call f y p q d e = absurd (cc)
 
   pub linear_refined : (π : Term) (r : List ℕ) (c : Head) → Linear π → Linear (refined S π r c)
   linear_refined π r c h y p q d e = go (graft_variable π r ρ p d) (graft_variable π r ρ q e)
@@ -123,39 +114,33 @@ pub same_fn_same : (f : Fn) → same_fn f f ≡ true
 same_fn_same plus = refl
 same_fn_same minus = refl
 same_fn_same atmost = refl
-same_fn_same (own f) = eqb_same f
+same_fn_same (own f) = eq-eqb f f refl
 
 -- variants are alike
 mutual
   instances_alike : (σ τ : Substitution) (l π : Term) → instance σ l ≡ π → instance τ π ≡ l → alike l π ≡ true
   instances_alike σ τ (var x) (var y) d e = refl
-  instances_alike σ τ (var x) (con c ps) d e = absurd (zero_one (cc))
-  instances_alike σ τ (var x) (fun f ps) d e = absurd (zero_one (cc))
-  instances_alike σ τ (con c ls) (var y) d e = absurd (zero_one (cc))
   instances_alike σ τ (con c ls) (con b ps) d e =
       let h : c ≡ b = cc in
       let f : instances σ ls ≡ ps = cc in
       let g : instances τ ps ≡ ls = cc in
       rw (← h, same_head_same c) (all_instances_alike σ τ ls ps f g)
-  instances_alike σ τ (con c ls) (fun f ps) d e = absurd (zero_one (cc))
-  instances_alike σ τ (fun f ls) (var y) d e = absurd (zero_one (cc))
-  instances_alike σ τ (fun f ls) (con b ps) d e = absurd (zero_one (cc))
   instances_alike σ τ (fun f ls) (fun b ps) d e =
       let h : f ≡ b = cc in
       let i : instances σ ls ≡ ps = cc in
       let g : instances τ ps ≡ ls = cc in
       rw (← h, same_fn_same f) (all_instances_alike σ τ ls ps i g)
+  instances_alike σ τ l π d e = absurd (cc)
 
   all_instances_alike : (σ τ : Substitution) (ls ps : Terms) → instances σ ls ≡ ps → instances τ ps ≡ ls → all_alike ls ps ≡ true
   all_instances_alike σ τ nil nil d e = refl
-  all_instances_alike σ τ nil (p ▸ ps) d e = absurd (zero_one (cc))
-  all_instances_alike σ τ (l ▸ ls) nil d e = absurd (zero_one (cc))
   all_instances_alike σ τ (l ▸ ls) (p ▸ ps) d e =
       let f : instance σ l ≡ p = cc in
       let g : instances σ ls ≡ ps = cc in
       let h : instance τ p ≡ l = cc in
       let i : instances τ ps ≡ ls = cc in
       rw (instances_alike σ τ l p f h) (all_instances_alike σ τ ls ps g i)
+  all_instances_alike σ τ ls ps d e = absurd (cc)
 
 pub variant_alike : (l π : Term) → Variant l π → alike l π ≡ true
 variant_alike l π v = instances_alike v.0.0 v.1.0 l π v.0.1 v.1.1

@@ -1,5 +1,6 @@
 -- Whether a tree is complete, computed. Assumes nothing.
-use Rattle.std.specs.Prelude.{ℕ, suc, Bool, true, false, not, ◌&&◌, ◌||◌, List, [], ◌∷◌, ◌==◌}
+use Rattle.std.specs.Prelude.{ℕ, suc, Bool, true, not, ◌&&◌, ◌||◌, List, [], ◌∷◌, ◌==◌}
+use Rattle.std.specs.List.{list_any}
 use Rattle.terms.specs.Terms.{Head, symbol}
 use Rattle.terms.specs.Signatures.{Declaration, Signature}
 use Rattle.terms.specs.Roots.{is_constructor}
@@ -9,14 +10,12 @@ use Rattle.rewriting.specs.FixedTree.{same_head}
 
 -- whether a constructor is one of some
 abbrev pub is_among : Head → List Head → Bool
-is_among c [] = false
-is_among c (d ∷ ds) = same_head c d || is_among c ds
+is_among c ds = list_any (same_head c) ds
 
 module _ (S : Signature) where
   -- whether one of some constructors is of the sort k
   abbrev pub makes : ℕ → List Head → Bool
-  makes k [] = false
-  makes k (d ∷ ds) = head_sort S d == k || makes k ds
+  makes k ds = list_any (λ d. head_sort S d == k) ds
 
   -- whether the symbol s, so declared, is one of some constructors, if it is a constructor of the sort of one of them
   abbrev pub is_met : List Head → ℕ → Declaration → Bool

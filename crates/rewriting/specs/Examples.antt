@@ -1,9 +1,8 @@
 -- Small books, and what φ and the fixed tree make of them. Assumes nothing.
-use Rattle.std.specs.Prelude.{◌≡◌, ℕ, ◌+◌, ◌-◌, true, false, leb, ◌⊎◌, List, [], ◌∷◌, ◌++◌, Some, None, codes, Option}
+use Rattle.std.specs.Prelude.{◌≡◌, ℕ, ◌+◌, ◌-◌, true, false, leb, ◌⊎◌, List, [], ◌∷◌, ◌++◌, Some, None, codes, Option, option_map}
 use Rattle.numbers.specs.Meaning.{Meaning, Sound}
 use Rattle.terms.specs.declared.signature.Role.TheVariants.{Constructor, Function}
 use Rattle.terms.specs.Terms.{Head, symbol, plus, own, Term, var, con, fun, nil, ◌▸◌, Value}
-use Rattle.terms.specs.Options.{mapped}
 use Rattle.terms.specs.Signatures.{Declaration, Signature, built_in}
 use Rattle.terms.specs.Sorting.{Environment, Sorted, closed}
 use Rattle.rewriting.specs.Rules.{Rule, Book}
@@ -139,7 +138,7 @@ half_book = book (half_1 ∷ half_2 ∷ [])
 
 -- the position of φ's next step
 abbrev pub next_position : Book → Term → Option (List ℕ)
-next_position B t = mapped (λ (m : Move). m.position) (φ plain B t)
+next_position B t = option_map (λ (m : Move). m.position) (φ plain B t)
 
 -- What is computed.
 pub record Worked : Type 0 where

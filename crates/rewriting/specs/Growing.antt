@@ -1,15 +1,17 @@
 -- The fixed tree once more, by open positions: those at which the pattern has a variable. No pattern is held. Assumes nothing.
-use Rattle.std.specs.Prelude.{◌≡◌, ℕ, zero, suc, ◌+◌, ◌-◌, ◌<◌, ◌≤◌, Bool, true, false, cond, ◌&&◌, List, [], ◌∷◌, ◌++◌, length, Some, None, Option}
+use Rattle.std.specs.Prelude.{◌≡◌, ℕ, zero, suc, ◌+◌, ◌-◌, ◌<◌, ◌≤◌, Bool, true, false, cond, List, [], ◌∷◌, ◌++◌, length, Some, None, Option, option_map, filter, flat_map}
 use mathlib.Core.List.{Memᴰ}
 use Rattle.std.specs.Str.{bytes_eq}
+use Rattle.std.specs.Option.{option_or}
+use Rattle.std.specs.List.{list_all}
 use Rattle.terms.specs.Terms.{Head, own, Term, var, con, fun}
-use Rattle.terms.specs.Options.{onward, mapped, passes}
+use Rattle.terms.specs.Options.{onward, passes}
 use Rattle.terms.specs.Signatures.{Signature}
 use Rattle.terms.specs.Roots.{head_args, fn_args}
 use Rattle.terms.specs.Positions.{part}
-use Rattle.rewriting.specs.Rules.{Rule, left_side, Book, kept, rules_of}
+use Rattle.rewriting.specs.Rules.{Rule, left_side, Book, rules_of}
 use Rattle.rewriting.specs.Trees.{Node, at_rule, branch}
-use Rattle.rewriting.specs.FixedTree.{has_at, first_shared, constructors_at, children, or_else, size}
+use Rattle.rewriting.specs.FixedTree.{has_at, first_shared, constructors_at, children, size}
 
 -- whether a term is a variable
 abbrev pub is_variable : Term → Bool
@@ -23,8 +25,7 @@ variable_at p r = passes is_variable (part (left_side r) p)
 
 -- at each of some positions
 abbrev pub all_variables : List (List ℕ) → Rule → Bool
-all_variables [] r = true
-all_variables (p ∷ ps) r = variable_at p r && all_variables ps r
+all_variables ps r = list_all (λ p. variable_at p r) ps
 
 -- the one rule that remains, if it has a variable at each open position
 abbrev pub sole_open : List (List ℕ) → List Rule → Option Rule
@@ -33,14 +34,18 @@ sole_open ps (r ∷ []) = cond (all_variables ps r) (Some r) None
 sole_open ps (r ∷ q ∷ rs) = None
 
 -- the positions of m arguments below p, from the argument i on
+-- Counted with suc, as positions are taken apart; the library's range counts with + 1.
 abbrev pub below : List ℕ → ℕ → ℕ → List (List ℕ)
 below p i zero = []
 below p i (suc m) = (p ++ (i ∷ [])) ∷ below p (suc i) m
 
+-- an open position, or m arguments below it if it is p
+abbrev pub opened_at : List ℕ → ℕ → List ℕ → List (List ℕ)
+opened_at p m q = cond (bytes_eq q p) (below p 1 m) (q ∷ [])
+
 -- the open positions with m arguments below p in place of p
 abbrev pub opened : List (List ℕ) → List ℕ → ℕ → List (List ℕ)
-opened [] p m = []
-opened (q ∷ qs) p m = cond (bytes_eq q p) (below p 1 m) (q ∷ []) ++ opened qs p m
+opened qs p m = flat_map (opened_at p m) qs
 
 module _ (S : Signature) where
   -- the open positions after a branch at p, under the constructor c
@@ -51,8 +56,8 @@ module _ (S : Signature) where
   abbrev pub grow : ℕ → List (List ℕ) → List Rule → Option Node
   grow zero ps rs = None
   grow (suc n) ps rs =
-      or_else (mapped at_rule (sole_open ps rs)) (onward (first_shared ps rs)
-      (λ p. mapped (branch p) (children (λ c. grow n (opened_under ps p c) (kept (has_at p c) rs)) (constructors_at p rs))))
+      option_or (option_map at_rule (sole_open ps rs)) (onward (first_shared ps rs)
+      (λ p. option_map (branch p) (children (λ c. grow n (opened_under ps p c) (filter (has_at p c) rs)) (constructors_at p rs))))
 
   -- the open positions of f(x1, .., xn)
   abbrev pub open_call : ℕ → List (List ℕ)
@@ -62,9 +67,10 @@ module _ (S : Signature) where
 pub data Reached (B : Book) (f most : ℕ) : ℕ → List (List ℕ) → List Rule → Type 0 where
   at_call : Reached B f most most (open_call B.signature f) (rules_of B f)
   in_branch : {n : ℕ} {ps : List (List ℕ)} {rs : List Rule} {p : List ℕ} {c : Head} → Reached B f most (suc n) ps rs → first_shared ps rs ≡ Some p → Memᴰ c (constructors_at p rs)
-      → Reached B f most n (opened_under B.signature ps p c) (kept (has_at p c) rs)
+      → Reached B f most n (opened_under B.signature ps p c) (filter (has_at p c) rs)
 
 -- how many nodes the rules that remain pay for: one for each symbol of a left side that is not yet in the pattern, and one more
+-- Summed from the first rule on, so that it computes where the rules are taken apart; the library's sum_by adds up from the left.
 abbrev pub paid : ℕ → ℕ → List Rule → ℕ
 paid most n [] = 0
 paid most n (r ∷ rs) = (size (left_side r) + n - most) + paid most n rs
@@ -72,7 +78,7 @@ paid most n (r ∷ rs) = (size (left_side r) + n - most) + paid most n rs
 -- and under each of some constructors
 abbrev pub paid_under : ℕ → ℕ → List ℕ → List Rule → List Head → ℕ
 paid_under most n p rs [] = 0
-paid_under most n p rs (c ∷ cs) = paid most n (kept (has_at p c) rs) + paid_under most n p rs cs
+paid_under most n p rs (c ∷ cs) = paid most n (filter (has_at p c) rs) + paid_under most n p rs cs
 
 -- what holds wherever the tree is grown: a rule remains; the open positions and their lengths stay below the bound; each rule pays for a node,
 -- and what is paid suffices for a branch and for all of its children

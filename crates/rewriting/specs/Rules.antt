@@ -1,5 +1,5 @@
 -- Rules and books. Assumes nothing.
-use Rattle.std.specs.Prelude.{◌≡◌, ℕ, Bool, cond, List, [], ◌∷◌, Some, ◌≢◌, nat_eq}
+use Rattle.std.specs.Prelude.{◌≡◌, ℕ, Bool, List, [], ◌∷◌, Some, ◌≢◌, nat_eq, filter}
 use mathlib.Core.List.{Memᴰ}
 use Rattle.std.specs.List.{slice_get}
 use Rattle.terms.specs.Terms.{symbol, own, Term, var, fun, Terms}
@@ -24,14 +24,9 @@ pub record Book : Type 0 where
   pub signature : Signature
   pub rules : List Rule
 
--- what passes a test, in its order
-abbrev pub kept : {A : Type 0} → (A → Bool) → List A → List A
-kept t [] = []
-kept t (x ∷ xs) = cond (t x) (x ∷ kept t xs) (kept t xs)
-
 -- the rules of the function f
 abbrev pub rules_of : Book → ℕ → List Rule
-rules_of B f = kept (λ r. nat_eq r.function f) B.rules
+rules_of B f = filter (λ r. nat_eq r.function f) B.rules
 
 -- no two of a list are equal
 abbrev pub Different : {A : Type 0} → List A → Type 0

@@ -1,14 +1,15 @@
 -- The strategy φ. Assumes nothing.
-use Rattle.std.specs.Prelude.{ℕ, zero, suc, max, cond, List, [], ◌∷◌, ◌++◌, Some, None, Option}
+use Rattle.std.specs.Prelude.{ℕ, zero, suc, max, cond, List, [], ◌∷◌, ◌++◌, Some, None, Option, option_map}
+use Rattle.std.specs.Option.{option_or}
 use Rattle.numbers.specs.Meaning.{Meaning}
-use Rattle.terms.specs.Terms.{Head, cell, symbol, plus, minus, atmost, own, Term, var, con, fun, Terms, nil, ◌▸◌}
-use Rattle.terms.specs.Options.{onward, mapped}
+use Rattle.terms.specs.Terms.{Head, cell, plus, minus, atmost, own, Term, var, con, fun, Terms, nil, ◌▸◌}
+use Rattle.terms.specs.Options.{onward}
 use Rattle.terms.specs.Positions.{part, graft}
 use Rattle.rewriting.specs.Substitutions.{instance, matching, in_first, in_later}
 use Rattle.rewriting.specs.Rules.{left_side, Book}
 use Rattle.rewriting.specs.Steps.{Cause, by_rule, by_kind, sum, difference, comparison}
 use Rattle.rewriting.specs.Trees.{Node, at_rule, branch, Nodes, no_child, child}
-use Rattle.rewriting.specs.FixedTree.{same_head, or_else, fixed_tree}
+use Rattle.rewriting.specs.FixedTree.{same_head, fixed_tree}
 
 -- What a call's tree finds: no way on; a cause that contracts the call, and the contractum; or a function call inside, at a position.
 pub data Found : Type 0 where
@@ -36,9 +37,7 @@ abbrev mutual
 -- two cells contract, by the number kind
 abbrev pub at_cells : (ℕ → ℕ → Term) → Head → Head → Found
 at_cells g (cell m) (cell n) = contract by_kind (g m n)
-at_cells g (cell m) (symbol s) = stuck
-at_cells g (symbol s) (cell n) = stuck
-at_cells g (symbol s) (symbol z) = stuck
+at_cells g c d = stuck
 
 -- plus, minus and atmost look at argument 1, then at argument 2, and contract when both are cells
 abbrev pub operate : (ℕ → ℕ → Term) → Term → Found
@@ -61,7 +60,7 @@ from_above t p m = record { position = p ++ m.position; cause = m.cause; next = 
 
 -- a move in the part at p
 abbrev pub move_at : Term → List ℕ → (Term → Option Move) → Option Move
-move_at t p go = onward (part t p) (λ s. mapped (from_above t p) (go s))
+move_at t p go = onward (part t p) (λ s. option_map (from_above t p) (go s))
 
 -- by what the tree of a call finds: the call contracts, or the move is made in the call inside
 abbrev pub follow : Term → Found → (Term → Option Move) → Option Move
@@ -89,7 +88,7 @@ abbrev mutual
 
   pub first_outermost : Terms → Option (List ℕ)
   first_outermost nil = None
-  first_outermost (t ▸ ts) = or_else (mapped in_first (outermost t)) (mapped in_later (first_outermost ts))
+  first_outermost (t ▸ ts) = option_or (option_map in_first (outermost t)) (option_map in_later (first_outermost ts))
 
 module _ (M : Meaning) (B : Book) where
   -- what a term finds at its root: only a call finds a way on

@@ -1,5 +1,6 @@
 -- Variables, substitutions and instances. Assumes nothing.
-use Rattle.std.specs.Prelude.{ℕ, suc, cond, List, [], ◌∷◌, ◌++◌, map, Some, None, Option, ◌==◌}
+use Rattle.std.specs.Prelude.{ℕ, suc, List, [], ◌∷◌, ◌++◌, map, Option, ◌==◌, Bool, find, option_map}
+use Rattle.std.specs.Option.{unwrap_or}
 use Rattle.terms.specs.Terms.{Term, var, con, fun, Terms, nil, ◌▸◌}
 use Rattle.terms.specs.Options.{onward}
 use Rattle.terms.specs.Positions.{part}
@@ -56,16 +57,14 @@ variables t = map (λ (o : Occurrence). o.name) (occurrences t)
 abbrev pub variable_positions : Term → List (List ℕ)
 variable_positions t = map (λ (o : Occurrence). o.position) (occurrences t)
 
+-- whether an occurrence is one of the variable x
+abbrev pub is_of : ℕ → Occurrence → Bool
+is_of x o = x == o.name
+
 -- the first position of the variable x
 abbrev pub position_of : ℕ → List Occurrence → Option (List ℕ)
-position_of x [] = None
-position_of x (o ∷ os) = cond (x == o.name) (Some o.position) (position_of x os)
-
--- a term that is there, or else the variable
-abbrev pub term_or : ℕ → Option Term → Term
-term_or x None = var x
-term_or x (Some t) = t
+position_of x os = option_map (λ (o : Occurrence). o.position) (find (is_of x) os)
 
 -- the substitution that takes l to t, where t is an instance of l: each variable of l goes to what stands at its position in t
 abbrev pub matching : Term → Term → Substitution
-matching l t x = term_or x (onward (position_of x (occurrences l)) (part t))
+matching l t x = unwrap_or (onward (position_of x (occurrences l)) (part t)) (var x)

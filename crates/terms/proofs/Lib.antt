@@ -2,5 +2,4 @@ pub mod Letters
 pub mod Options
 pub mod Roots
 pub mod Names
-pub mod Copies
 pub mod Tables

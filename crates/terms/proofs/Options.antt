@@ -15,10 +15,6 @@ pub more_ahead : (n : ℕ) (o : Option ℕ) → more (ahead n o) ≡ ahead (n + 
 more_ahead n (Some k) = ap Some (omega arith)
 more_ahead n None = refl
 
-pub ahead_more : (n : ℕ) (o : Option ℕ) → ahead n (more o) ≡ ahead (n + 1) o
-ahead_more n (Some k) = ap Some (omega arith)
-ahead_more n None = refl
-
 pub more_some : (o : Option ℕ) (n : ℕ) → more o ≡ Some n → (m : ℕ) × (o ≡ Some m) × (n ≡ m + 1)
 more_some (Some m) n h = (m, refl, cc)
 more_some None n h = absurd (zero_one (cc))

@@ -6,4 +6,5 @@ pub mod Signatures
 pub mod Roots
 pub mod Sorting
 pub mod Positions
+pub mod Rows
 pub mod Views

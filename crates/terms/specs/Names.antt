@@ -1,7 +1,7 @@
 -- Names of sorts and symbols. Assumes nothing.
-use Rattle.std.specs.Prelude.{ℕ, Bool, true, false, cond, ◌&&◌, ◌||◌, List, [], ◌∷◌, length, Some, None, Option, nat_le}
+use Rattle.std.specs.Prelude.{ℕ, Bool, false, cond, ◌&&◌, ◌||◌, List, [], ◌∷◌, length, Some, None, Option, nat_le}
 use Rattle.std.specs.Str.{bytes_eq}
-use Rattle.terms.specs.Options.{more}
+use Rattle.std.specs.List.{list_all, position}
 
 -- a to z
 abbrev pub is_small : ℕ → Bool
@@ -11,15 +11,10 @@ is_small b = nat_le 97 b && nat_le b 122
 abbrev pub may_follow : ℕ → Bool
 may_follow b = is_small b || (nat_le 48 b && nat_le b 57)
 
--- each of them
-abbrev pub all_follow : List ℕ → Bool
-all_follow [] = true
-all_follow (b ∷ bs) = may_follow b && all_follow bs
-
 -- a to z first, then a to z or 0 to 9
 abbrev pub in_form : List ℕ → Bool
 in_form [] = false
-in_form (b ∷ bs) = is_small b && all_follow bs
+in_form (b ∷ bs) = is_small b && list_all may_follow bs
 
 -- a name: 1 to 12 bytes in that form
 abbrev pub well_formed : List ℕ → Bool
@@ -31,5 +26,4 @@ name_of bs = cond (well_formed bs) (Some bs) None
 
 -- the place of the first name that is these bytes
 abbrev pub find_name : List (List ℕ) → List ℕ → Option ℕ
-find_name [] bs = None
-find_name (n ∷ ns) bs = cond (bytes_eq n bs) (Some 0) (more (find_name ns bs))
+find_name ns bs = position (λ n. bytes_eq n bs) ns

@@ -6,11 +6,6 @@ abbrev pub onward : {A B : Type 0} → Option A → (A → Option B) → Option 
 onward None f = None
 onward (Some a) f = f a
 
--- the same of what is there
-abbrev pub mapped : {A B : Type 0} → (A → B) → Option A → Option B
-mapped f None = None
-mapped f (Some a) = Some (f a)
-
 -- whether something is there that passes a test
 abbrev pub passes : {A : Type 0} → (A → Bool) → Option A → Bool
 passes p None = false

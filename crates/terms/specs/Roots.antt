@@ -1,12 +1,12 @@
 -- What a term begins with, and its letter under a signature. Assumes nothing.
-use Rattle.std.specs.Prelude.{◌≡◌, ℕ, zero, suc, ◌^◌, ◌<◌, Bool, true, false, List, [], length, Some, None, Option}
+use Rattle.std.specs.Prelude.{◌≡◌, ℕ, zero, suc, ◌^◌, ◌<◌, Bool, true, false, List, [], length, Some, None, Option, option_map}
 use Rattle.std.specs.List.{slice_get}
 use Rattle.terms.specs.declared.letter.Letter.{Letter}
 use Rattle.terms.specs.declared.letter.Letter.TheVariants.{Cell, Symbol, Variable}
 use Rattle.terms.specs.declared.signature.Role.{Role}
 use Rattle.terms.specs.declared.signature.Role.TheVariants.{Constructor, Function, Operation}
 use Rattle.terms.specs.Terms.{Head, cell, symbol, Fn, plus, minus, atmost, own, Term, var, con, fun, Terms}
-use Rattle.terms.specs.Options.{onward, mapped}
+use Rattle.terms.specs.Options.{onward}
 use Rattle.terms.specs.Letters.{letter_of, number_of}
 use Rattle.terms.specs.Signatures.{Declaration, Signature}
 
@@ -72,7 +72,7 @@ symbol_root s false = call (fn_of s)
 -- the root that a letter is under a signature
 abbrev pub letter_root : Signature → Letter → Option Root
 letter_root S (Cell n) = Some (head (cell n))
-letter_root S (Symbol s) = mapped (λ d. symbol_root s (is_constructor d.role)) (slice_get S.symbols s)
+letter_root S (Symbol s) = option_map (λ d. symbol_root s (is_constructor d.role)) (slice_get S.symbols s)
 letter_root S (Variable v) = Some (variable v)
 
 -- the root that a number is
@@ -82,7 +82,7 @@ root_of S x = onward (letter_of x) (letter_root S)
 -- the role of a letter; cells, variables and undeclared symbols have none
 abbrev pub letter_role : Signature → Letter → Option Role
 letter_role S (Cell n) = None
-letter_role S (Symbol s) = mapped (λ d. d.role) (slice_get S.symbols s)
+letter_role S (Symbol s) = option_map (λ d. d.role) (slice_get S.symbols s)
 letter_role S (Variable v) = None
 
 -- the role of a number
@@ -111,8 +111,8 @@ root_args S (call f) = fn_args S f
 
 -- of a letter: the sorts due after it, and their number; what is no letter of the signature has neither
 abbrev pub args_of : Signature → ℕ → Option (List ℕ)
-args_of S x = mapped (root_args S) (root_of S x)
+args_of S x = option_map (root_args S) (root_of S x)
 
 -- how many arguments a number takes
 abbrev pub arity : Signature → ℕ → Option ℕ
-arity S x = mapped length (args_of S x)
+arity S x = option_map length (args_of S x)

@@ -29,6 +29,10 @@ built_in = record {
       ∷ [];
 }
 
+-- no sorts and no symbols
+abbrev pub nothing : Signature
+nothing = record { sorts = []; symbols = [] }
+
 -- what a call answers, and the signature after it
 pub record Change : Type 0 where
   pub answer : Option ℕ

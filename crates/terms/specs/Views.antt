@@ -1,5 +1,5 @@
 -- What the code's names and signatures are.
-use Rattle.std.specs.Prelude.{◌≡◌, ℕ, List, map, take, None, Option}
+use Rattle.std.specs.Prelude.{◌≡◌, ℕ, List, map, None, Option}
 use Rattle.std.specs.List.{slice_get}
 use Rattle.terms.specs.declared.name.Name.{Name}
 use Rattle.terms.specs.declared.signature.Entry.{Entry}
@@ -7,19 +7,20 @@ use Rattle.terms.specs.declared.signature.Signature.{Signature as Table}
 use Rattle.terms.specs.declared.signature.Role.{Role}
 use Rattle.terms.specs.Signatures.{Declaration, Signature, Change}
 use Rattle.terms.specs.Options.{onward}
+use Rattle.terms.specs.Rows.{items}
 use Rattle.terms.specs.Sorting.{Environment}
 
 -- the bytes of a name
 abbrev pub bytes_of : Name → List ℕ
-bytes_of n = take n.len n.bytes
+bytes_of n = items n.bytes
 
 -- a symbol as it was declared
 abbrev pub declaration : Entry → Declaration
-declaration y = record { name = bytes_of y.name; role = y.role; args = take y.arity y.args; sort = y.sort }
+declaration y = record { name = bytes_of y.name; role = y.role; args = items y.args; sort = y.sort }
 
--- a signature: what stands up to its counts
+-- a signature: the names of its sorts, and its symbols as they were declared
 abbrev pub view : Table → Signature
-view g = record { sorts = map bytes_of (take g.sort_count g.sorts); symbols = map declaration (take g.symbol_count g.symbols) }
+view g = record { sorts = map bytes_of (items g.sorts); symbols = map declaration (items g.symbols) }
 
 -- the sorts of variables that are given as a list
 abbrev pub given : List (Option ℕ) → Environment

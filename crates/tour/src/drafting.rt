@@ -1,111 +1,118 @@
 // The meet book written by calls, and calls that are refused on the way.
+use crate::letters::{MEET, UP, X, Y, ZERO};
 use drafts::draft::Draft;
-use drafts::fault::{ContentFault, RuleFault, Side};
-use std::io;
+use drafts::fault::{ContentFault, RuleFault};
+use std::{fmt, io};
+use terms::letter::{PLUS, TRUE};
 
-const SYMBOLS: u64 = 0x1_0000_0000;
-
-const PLUS: u64 = SYMBOLS;
-
-const TRUE: u64 = SYMBOLS + 3;
-
-const ZERO: u64 = SYMBOLS + 5;
-
-const UP: u64 = SYMBOLS + 6;
-
-const MEET: u64 = SYMBOLS + 7;
-
-const X: u64 = 0x2_0000_0000;
-
-const Y: u64 = X + 1;
-
-// The sort truth, and the sort level that the draft declares.
+// The sort truth, and the sort level that the draft declares; tour_checks and each test name their own.
 const TRUTH: u64 = 1;
 
 const LEVEL: u64 = 2;
 
-// A call of the contents, with its number or its refusal.
-fn tell_content(rt: &HostRuntime, call: &str, answer: Result<u8, ContentFault>) -> io::Result<()> {
-    match answer {
-        Ok(number) => println!(rt; "  {call}: {number}"),
-        Err(fault) => {
-            let number = fault.number();
-            println!(rt; "  {call}: refused {number}")
+// Why a call is refused.
+#[derive(Clone, Copy)]
+enum Refusal {
+    Content(ContentFault),
+    Rule(RuleFault),
+}
+
+impl From<ContentFault> for Refusal {
+    fn from(fault: ContentFault) -> Refusal {
+        Refusal::Content(fault)
+    }
+}
+
+impl From<RuleFault> for Refusal {
+    fn from(fault: RuleFault) -> Refusal {
+        Refusal::Rule(fault)
+    }
+}
+
+// The number of the refusal, and of a rule the side and letter.
+impl fmt::Display for Refusal {
+    fn fmt<W: fmt::Write>(&self, f: &mut fmt::Formatter<W>) -> fmt::Result {
+        match self {
+            Refusal::Content(fault) => write!(f, "refused {}", fault.number()),
+            Refusal::Rule(fault) => {
+                let (number, side, at) = fault.numbered();
+                write!(f, "refused {number}, {side} letter {at}")
+            }
         }
     }
 }
 
-// A call with a rule, with its number or its refusal, side and letter.
-fn tell_rule(rt: &HostRuntime, call: &str, answer: Result<usize, RuleFault>) -> io::Result<()> {
+// A call, with its number or its refusal.
+fn tell<N: fmt::Display + Drop, F: Into<Refusal>>(
+    rt: &HostRuntime,
+    call: &str,
+    answer: Result<N, F>,
+) -> io::Result<()> {
     match answer {
         Ok(number) => println!(rt; "  {call}: {number}"),
         Err(fault) => {
-            let (number, side, at) = fault.numbered();
-            let side = match side {
-                Side::Left => "left",
-                Side::Right => "right",
-            };
-            println!(rt; "  {call}: refused {number}, {side} letter {at}")
+            let refusal: Refusal = fault.into();
+            println!(rt; "  {call}: {refusal}")
         }
     }
 }
 
 fn declare_contents(rt: &HostRuntime, draft: &mut Draft) -> io::Result<()> {
-    tell_content(rt, "sort level", draft.declare_sort(b"level"))?;
+    tell(rt, "sort level", draft.declare_sort(b"level"))?;
     let zero = draft.declare_constructor(b"zero", &[], LEVEL);
-    tell_content(rt, "con zero : level", zero)?;
+    tell(rt, "con zero : level", zero)?;
     let up = draft.declare_constructor(b"up", &[LEVEL], LEVEL);
-    tell_content(rt, "con up(level) : level", up)?;
+    tell(rt, "con up(level) : level", up)?;
     let meet = draft.declare_function(b"meet", &[LEVEL, LEVEL], LEVEL, 3);
-    tell_content(rt, "fun meet(level, level) : level 3", meet)
+    tell(rt, "fun meet(level, level) : level 3", meet)
 }
 
 fn refuse_contents(rt: &HostRuntime, draft: &mut Draft) -> io::Result<()> {
-    tell_content(rt, "sort Level", draft.declare_sort(b"Level"))?;
-    tell_content(rt, "sort up", draft.declare_sort(b"up"))?;
+    tell(rt, "sort Level", draft.declare_sort(b"Level"))?;
+    tell(rt, "sort up", draft.declare_sort(b"up"))?;
     let unknown = draft.declare_constructor(b"top", &[9], LEVEL);
-    tell_content(rt, "con top(sort 9) : level", unknown)?;
+    tell(rt, "con top(sort 9) : level", unknown)?;
     let five = draft.declare_constructor(b"top", &[LEVEL; 5], LEVEL);
-    tell_content(rt, "con top of five levels : level", five)?;
+    tell(rt, "con top of five levels : level", five)?;
     let third = draft.declare_constructor(b"maybe", &[], TRUTH);
-    tell_content(rt, "con maybe : truth", third)?;
+    tell(rt, "con maybe : truth", third)?;
     let none = draft.declare_function(b"idle", &[], LEVEL, 0);
-    tell_content(rt, "fun idle : level 0", none)
+    tell(rt, "fun idle : level 0", none)
 }
 
 fn refuse_sides(rt: &HostRuntime, draft: &mut Draft) -> io::Result<()> {
-    tell_rule(rt, "nothing = zero", draft.add_rule(&[], &[ZERO]))?;
+    tell(rt, "nothing = zero", draft.add_rule(&[], &[ZERO]))?;
     let unknown = draft.add_rule(&[MEET, X, Y], &[MEET + 1]);
-    tell_rule(rt, "meet(X, Y) = symbol 8", unknown)?;
+    tell(rt, "meet(X, Y) = symbol 8", unknown)?;
     let cell = draft.add_rule(&[MEET, X, 5], &[ZERO]);
-    tell_rule(rt, "meet(X, 5) = zero", cell)?;
-    tell_rule(rt, "meet(X) = zero", draft.add_rule(&[MEET, X], &[ZERO]))?;
-    tell_rule(rt, "up(X) = zero", draft.add_rule(&[UP, X], &[ZERO]))
+    tell(rt, "meet(X, 5) = zero", cell)?;
+    tell(rt, "meet(X) = zero", draft.add_rule(&[MEET, X], &[ZERO]))?;
+    tell(rt, "up(X) = zero", draft.add_rule(&[UP, X], &[ZERO]))
 }
 
 fn refuse_shapes(rt: &HostRuntime, draft: &mut Draft) -> io::Result<()> {
     let inner = draft.add_rule(&[MEET, X, MEET, X, Y], &[ZERO]);
-    tell_rule(rt, "meet(X, meet(X, Y)) = zero", inner)?;
+    tell(rt, "meet(X, meet(X, Y)) = zero", inner)?;
     let twice = draft.add_rule(&[MEET, X, X], &[ZERO]);
-    tell_rule(rt, "meet(X, X) = zero", twice)?;
+    tell(rt, "meet(X, X) = zero", twice)?;
     let new = draft.add_rule(&[MEET, X, ZERO], &[UP, Y]);
-    tell_rule(rt, "meet(X, zero) = up(Y)", new)?;
+    tell(rt, "meet(X, zero) = up(Y)", new)?;
     let left = draft.add_rule(&[MEET, X, TRUE], &[ZERO]);
-    tell_rule(rt, "meet(X, true) = zero", left)?;
+    tell(rt, "meet(X, true) = zero", left)?;
     let right = draft.add_rule(&[MEET, X, Y], &[PLUS, 1, 2]);
-    tell_rule(rt, "meet(X, Y) = plus(1, 2)", right)
+    tell(rt, "meet(X, Y) = plus(1, 2)", right)
 }
 
 fn add_rules(rt: &HostRuntime, draft: &mut Draft) -> io::Result<()> {
     let first = draft.add_rule(&[MEET, ZERO, Y], &[ZERO]);
-    tell_rule(rt, "meet(zero, Y) = zero", first)?;
+    tell(rt, "meet(zero, Y) = zero", first)?;
     let second = draft.add_rule(&[MEET, UP, X, ZERO], &[ZERO]);
-    tell_rule(rt, "meet(up(X), zero) = zero", second)?;
+    tell(rt, "meet(up(X), zero) = zero", second)?;
     let third = draft.add_rule(&[MEET, UP, X, UP, Y], &[UP, MEET, X, Y]);
-    tell_rule(rt, "meet(up(X), up(Y)) = up(meet(X, Y))", third)?;
+    tell(rt, "meet(up(X), up(Y)) = up(meet(X, Y))", third)?;
     let fourth = draft.add_rule(&[MEET, X, Y], &[ZERO]);
-    tell_rule(rt, "meet(X, Y) = zero", fourth)?;
-    tell_content(rt, "sort late", draft.declare_sort(b"late"))
+    tell(rt, "meet(X, Y) = zero", fourth)?;
+    tell(rt, "sort late", draft.declare_sort(b"late"))
 }
 
 // Contents and rules of one draft. What is refused changes nothing, so that the draft goes on as if it had not been.

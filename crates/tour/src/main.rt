@@ -2,10 +2,11 @@
 #![tactic(auto)]
 
 mod drafting;
+mod letters;
 mod parts;
 mod show;
+mod spelling;
 
-use anyhow::anyhow;
 use meters::Panel;
 
 // The pulses of each tick.
@@ -14,9 +15,7 @@ const PULSES: [u32; 12] = [0, 5, 10, 15, 20, 30, 40, 50, 60, 70, 80, 90];
 // One sweep of the pulse generator.
 fn show_sweep(rt: &HostRuntime) -> anyhow::Result<()> {
     let mut panels = [Panel::standstill(); PULSES.len()];
-    if !meters::sweep(Panel::standstill(), &PULSES, &mut panels) {
-        return Err(anyhow!("too few panels for the ticks"));
-    }
+    meters::sweep(Panel::standstill(), &PULSES, &mut panels)?;
     println!(rt; "A pulse generator sweeps from standstill to the red line.")?;
     println!(rt; "{}", show::HEADING)?;
     for (i, (pulses, panel)) in PULSES.iter().zip(panels.iter()).enumerate() {

@@ -14,6 +14,7 @@ pub struct Tick {
 }
 
 // What stands behind a reading.
+// No Display of Mark: blanks in front, and none where nothing happened, belong to this table.
 fn word(mark: Mark) -> &'static str {
     match mark {
         Mark::Free => "",
@@ -33,23 +34,28 @@ impl fmt::Display for Tick {
         write!(f, "{:>4}  {:>6} | ", self.number, self.pulses)?;
         write!(f, "{:>6}{:<8} | ", count.cell, word(count.mark))?;
         write!(f, "{:>4}{:<8} | ", trip.cell, word(trip.mark))?;
-        degrees(temperature, f)?;
+        write!(f, "{}", Degrees(temperature))?;
         write!(f, "{:<8} | ", word(temperature.mark))?;
         write!(f, "{:>3}{}", gauge.cell, word(gauge.mark))
     }
 }
 
 // A cell of signed tenths as degrees with one decimal, six characters wide.
-fn degrees<W: fmt::Write>(r: Reading, f: &mut fmt::Formatter<W>) -> fmt::Result {
-    let value = r.cell.cast_signed();
-    let tenths = value.unsigned_abs();
-    let indent = match tenths {
-        0..=99 => "  ",
-        100..=999 => " ",
-        _ => "",
-    };
-    let sign = if value < 0 { '-' } else { ' ' };
-    write!(f, "{indent}{sign}{}.{}", tenths / 10, tenths % 10)
+#[derive(Clone, Copy)]
+struct Degrees(Reading);
+
+impl fmt::Display for Degrees {
+    fn fmt<W: fmt::Write>(&self, f: &mut fmt::Formatter<W>) -> fmt::Result {
+        let value = self.0.cell.cast_signed();
+        let tenths = value.unsigned_abs();
+        let indent = match tenths {
+            0..=99 => "  ",
+            100..=999 => " ",
+            _ => "",
+        };
+        let sign = if value < 0 { '-' } else { ' ' };
+        write!(f, "{indent}{sign}{}.{}", tenths / 10, tenths % 10)
+    }
 }
 
 // The closing line of a sweep.

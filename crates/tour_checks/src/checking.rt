@@ -1,24 +1,20 @@
 // Four drafts are checked; two of them are books, shown with their trees.
-use crate::spelling::{spell_name, spell_position};
+use crate::spelling::{Position, Symbol};
 use books::book::Book;
 use drafts::draft::Draft;
 use std::io;
-use terms::signature::Signature;
+use terms::letter::{FALSE, SYMBOLS, TRUE, VARIABLES};
+use terms::signature::{MOST_SYMBOLS, Signature};
 use trees::node::Kind;
 
-const SYMBOLS: u64 = 0x1_0000_0000;
-
-const TRUE: u64 = SYMBOLS + 3;
-
-const FALSE: u64 = SYMBOLS + 4;
-
+// The letters of what the drafts declare, and of their variables; the other program and each test name their own.
 const ZERO: u64 = SYMBOLS + 5;
 
 const UP: u64 = SYMBOLS + 6;
 
-const X: u64 = 0x2_0000_0000;
+const X: u64 = VARIABLES;
 
-const Y: u64 = X + 1;
+const Y: u64 = VARIABLES + 1;
 
 const TRUTH: u64 = 1;
 
@@ -28,92 +24,87 @@ const LEVEL: u64 = 2;
 const DEEPEST: usize = 8;
 
 // The sort level with zero and up.
-fn levels() -> Draft {
+// Tests and the other program have such levels too: each makes its own, by the calls that it shows.
+fn levels() -> anyhow::Result<Draft> {
     let mut draft = Draft::new();
-    let _ = draft.declare_sort(b"level");
-    let _ = draft.declare_constructor(b"zero", &[], LEVEL);
-    let _ = draft.declare_constructor(b"up", &[LEVEL], LEVEL);
-    draft
+    draft.declare_sort(b"level")?;
+    draft.declare_constructor(b"zero", &[], LEVEL)?;
+    draft.declare_constructor(b"up", &[LEVEL], LEVEL)?;
+    Ok(draft)
 }
 
 // meet(zero, Y) = zero; meet(up(X), zero) = zero; meet(up(X), up(Y)) = up(meet(X, Y))
-fn meet() -> Draft {
+fn meet() -> anyhow::Result<Draft> {
     let meet = SYMBOLS + 7;
-    let mut draft = levels();
-    let _ = draft.declare_function(b"meet", &[LEVEL, LEVEL], LEVEL, 3);
-    let _ = draft.add_rule(&[meet, ZERO, Y], &[ZERO]);
-    let _ = draft.add_rule(&[meet, UP, X, ZERO], &[ZERO]);
-    let _ = draft.add_rule(&[meet, UP, X, UP, Y], &[UP, meet, X, Y]);
-    draft
+    let mut draft = levels()?;
+    draft.declare_function(b"meet", &[LEVEL, LEVEL], LEVEL, 3)?;
+    draft.add_rule(&[meet, ZERO, Y], &[ZERO])?;
+    draft.add_rule(&[meet, UP, X, ZERO], &[ZERO])?;
+    draft.add_rule(&[meet, UP, X, UP, Y], &[UP, meet, X, Y])?;
+    Ok(draft)
 }
 
 // pick(A, true) = A; pick(true, false) = false; pick(false, false) = true
-fn pick() -> Draft {
+// As `meet`, `either` and `half` written out by its calls: the rules are to be read in the order in which they are added.
+fn pick() -> anyhow::Result<Draft> {
     let pick = SYMBOLS + 5;
     let mut draft = Draft::new();
-    let _ = draft.declare_function(b"pick", &[TRUTH, TRUTH], TRUTH, 3);
-    let _ = draft.add_rule(&[pick, X, TRUE], &[X]);
-    let _ = draft.add_rule(&[pick, TRUE, FALSE], &[FALSE]);
-    let _ = draft.add_rule(&[pick, FALSE, FALSE], &[TRUE]);
-    draft
+    draft.declare_function(b"pick", &[TRUTH, TRUTH], TRUTH, 3)?;
+    draft.add_rule(&[pick, X, TRUE], &[X])?;
+    draft.add_rule(&[pick, TRUE, FALSE], &[FALSE])?;
+    draft.add_rule(&[pick, FALSE, FALSE], &[TRUE])?;
+    Ok(draft)
 }
 
 // either(true, A) = true; either(A, true) = true; either(false, false) = false
-fn either() -> Draft {
+fn either() -> anyhow::Result<Draft> {
     let either = SYMBOLS + 5;
     let mut draft = Draft::new();
-    let _ = draft.declare_function(b"either", &[TRUTH, TRUTH], TRUTH, 3);
-    let _ = draft.add_rule(&[either, TRUE, X], &[TRUE]);
-    let _ = draft.add_rule(&[either, X, TRUE], &[TRUE]);
-    let _ = draft.add_rule(&[either, FALSE, FALSE], &[FALSE]);
-    draft
+    draft.declare_function(b"either", &[TRUTH, TRUTH], TRUTH, 3)?;
+    draft.add_rule(&[either, TRUE, X], &[TRUE])?;
+    draft.add_rule(&[either, X, TRUE], &[TRUE])?;
+    draft.add_rule(&[either, FALSE, FALSE], &[FALSE])?;
+    Ok(draft)
 }
 
 // half(zero) = zero; half(up(up(A))) = up(half(A))
-fn half() -> Draft {
+fn half() -> anyhow::Result<Draft> {
     let half = SYMBOLS + 7;
-    let mut draft = levels();
-    let _ = draft.declare_function(b"half", &[LEVEL], LEVEL, 2);
-    let _ = draft.add_rule(&[half, ZERO], &[ZERO]);
-    let _ = draft.add_rule(&[half, UP, UP, X], &[UP, half, X]);
-    draft
+    let mut draft = levels()?;
+    draft.declare_function(b"half", &[LEVEL], LEVEL, 2)?;
+    draft.add_rule(&[half, ZERO], &[ZERO])?;
+    draft.add_rule(&[half, UP, UP, X], &[UP, half, X])?;
+    Ok(draft)
 }
 
-// A symbol's name, so far to the right.
-fn spell_symbol(
-    rt: &HostRuntime,
-    signature: &Signature,
-    symbol: u8,
-    indent: usize,
-) -> io::Result<()> {
-    for _ in 0..indent {
-        print!(rt; "  ")?;
-    }
-    match signature.symbol_name(symbol) {
-        Some(name) => spell_name(rt, &name),
-        None => print!(rt; " ?"),
+// A book with the names of its symbols.
+#[derive(Clone, Copy)]
+struct Shown<'a> {
+    book: &'a Book,
+    signature: &'a Signature,
+}
+
+impl Shown<'_> {
+    fn symbol(&self, symbol: u8, indent: usize) -> Symbol<'_> {
+        Symbol {
+            signature: self.signature,
+            symbol,
+            indent,
+        }
     }
 }
 
 // The tree below a place: a rule by its number, or a branch at a position with a line for each child.
 #[cycle(show_children_show_tree)]
-fn show_tree(
-    rt: &HostRuntime,
-    book: &Book,
-    signature: &Signature,
-    place: usize,
-    indent: usize,
-) -> io::Result<()> {
-    let Some(node) = book.rules.node(place) else {
+fn show_tree(rt: &HostRuntime, shown: Shown<'_>, place: usize, indent: usize) -> io::Result<()> {
+    let Some(node) = shown.book.rules.node(place) else {
         return println!(rt; ": nothing");
     };
     match node.kind {
         Kind::Rule(rule) => println!(rt; ": rule {rule}"),
         Kind::Branch(path, _) => {
-            print!(rt; ": at ")?;
-            spell_position(rt, path.steps())?;
-            println!(rt)?;
-            show_children(rt, book, signature, place, indent)
+            println!(rt; ": at {}", Position(path.steps()))?;
+            show_children(rt, shown, place, indent)
         }
     }
 }
@@ -121,19 +112,21 @@ fn show_tree(
 #[cycle(show_children_show_tree)]
 fn show_children(
     rt: &HostRuntime,
-    book: &Book,
-    signature: &Signature,
+    shown: Shown<'_>,
     place: usize,
     indent: usize,
 ) -> io::Result<()> {
     if indent >= DEEPEST {
         return Ok(());
     }
-    for symbol in 0..96u8 {
-        if let Some(child) = book.rules.child(place, symbol) {
-            spell_symbol(rt, signature, symbol, indent)?;
-            show_tree(rt, book, signature, child, indent + 1)?;
-        }
+    let rules = &shown.book.rules;
+    // The cast loses nothing, here and in `show_book`: there are at most 96 symbols.
+    let children = (0..MOST_SYMBOLS as u8).filter_map(|s| rules
+        .child(place, s)
+        .map(|child| (s, child)));
+    for (symbol, child) in children {
+        print!(rt; "{}", shown.symbol(symbol, indent))?;
+        show_tree(rt, shown, child, indent + 1)?;
     }
     Ok(())
 }
@@ -141,11 +134,14 @@ fn show_children(
 // Every function with its tree.
 fn show_book(rt: &HostRuntime, book: &Book) -> io::Result<()> {
     let signature = book.signature();
-    for symbol in 0..96u8 {
-        if let Some(root) = book.rules.root(symbol) {
-            spell_symbol(rt, &signature, symbol, 1)?;
-            show_tree(rt, book, &signature, root, 2)?;
-        }
+    let shown = Shown {
+        book,
+        signature: &signature,
+    };
+    let roots = (0..MOST_SYMBOLS as u8).filter_map(|s| book.rules.root(s).map(|root| (s, root)));
+    for (symbol, root) in roots {
+        print!(rt; "{}", shown.symbol(symbol, 1))?;
+        show_tree(rt, shown, root, 2)?;
     }
     Ok(())
 }
@@ -159,10 +155,14 @@ fn tell(rt: &HostRuntime, name: &str, draft: &Draft) -> io::Result<()> {
             show_book(rt, &book)
         }
         Err(fault) => {
-            let (number, function) = fault.numbered();
-            print!(rt; "  {name}: refused {number}, names")?;
-            spell_symbol(rt, draft.signature(), function, 0)?;
-            println!(rt)
+            // By its number and the name of the function; the fault prints itself by numbers alone.
+            let (number, symbol) = fault.numbered();
+            let function = Symbol {
+                signature: draft.signature(),
+                symbol,
+                indent: 0,
+            };
+            println!(rt; "  {name}: refused {number}, names{function}")
         }
     }
 }
@@ -172,9 +172,9 @@ pub fn show_checks(rt: &HostRuntime) -> anyhow::Result<()> {
     println!(rt;
         "Drafts are checked; a book is shown with its trees, by place, constructor and rule."
     )?;
-    tell(rt, "meet", &meet())?;
-    tell(rt, "pick", &pick())?;
-    tell(rt, "either", &either())?;
-    tell(rt, "half", &half())?;
+    tell(rt, "meet", &meet()?)?;
+    tell(rt, "pick", &pick()?)?;
+    tell(rt, "either", &either()?)?;
+    tell(rt, "half", &half()?)?;
     Ok(())
 }

@@ -1,27 +1,42 @@
-// How names and positions are printed.
-use std::io;
-use terms::name::Name;
+// How symbols and positions are printed.
+use std::fmt;
+use terms::signature::Signature;
 
-// A name, after a blank.
-pub(crate) fn spell_name(rt: &HostRuntime, name: &Name) -> io::Result<()> {
-    print!(rt; " ")?;
-    for byte in name.as_bytes() {
-        let c = char::from(*byte);
-        print!(rt; "{c}")?;
-    }
-    Ok(())
+// A symbol's name after a blank, so far to the right.
+#[derive(Clone, Copy)]
+pub struct Symbol<'a> {
+    pub signature: &'a Signature,
+    pub symbol: u8,
+    pub indent: usize,
 }
 
-// A position: argument numbers with dots between.
-pub(crate) fn spell_position(rt: &HostRuntime, path: &[u8]) -> io::Result<()> {
-    if path.is_empty() {
-        print!(rt; "root")?;
-    }
-    for (i, number) in path.iter().enumerate() {
-        if i > 0 {
-            print!(rt; ".")?;
+impl fmt::Display for Symbol<'_> {
+    fn fmt<W: fmt::Write>(&self, f: &mut fmt::Formatter<W>) -> fmt::Result {
+        // By steps of two blanks: a width in the format would be a sum of blanks.
+        for _ in 0..self.indent {
+            f.write_str("  ")?;
         }
-        print!(rt; "{number}")?;
+        match self.signature.symbol_name(self.symbol) {
+            Some(name) => write!(f, " {name}"),
+            None => f.write_str(" ?"),
+        }
     }
-    Ok(())
+}
+
+// A position: argument numbers with dots between. It stands in tour too, as programs share no crate of their own.
+#[derive(Clone, Copy)]
+pub struct Position<'a>(pub &'a [u8]);
+
+impl fmt::Display for Position<'_> {
+    fn fmt<W: fmt::Write>(&self, f: &mut fmt::Formatter<W>) -> fmt::Result {
+        let Position(path) = self;
+        let [first, rest @ ..] = path else {
+            return f.write_str("root");
+        };
+        write!(f, "{first}")?;
+        for number in rest {
+            write!(f, ".{number}")?;
+        }
+        Ok(())
+    }
 }

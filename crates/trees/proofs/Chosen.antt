@@ -1,23 +1,24 @@
 -- The rules that a mask leaves, and the rules of a draft by their places.
-use Rattle.std.proofs.Common.{◌≡◌, ℕ, zero, suc, ◌+◌, ◌^◌, ◌<◌, ◌≤◌, Bool, true, false, cond, not, ◌||◌, eqb, List, [], ◌∷◌, ◌++◌, map, length, get_or, drop, set, Some, None, Option, sym, refl, ap, ◌∙◌, inl, inr, add-one, arith}
+use Rattle.std.proofs.Common.{◌≡◌, ℕ, zero, suc, ◌+◌, ◌-◌, ◌^◌, ◌<◌, ◌≤◌, Bool, true, false, cond, not, ◌||◌, eqb, List, [], ◌∷◌, ◌++◌, map, length, get_or, drop, Some, None, Option, sym, refl, ap, ◌∙◌, add-one, arith, option_map, filter}
 use mathlib.Core.List.{Memᴰ}
 use Rattle.std.specs.List.{slice_get}
-use Rattle.std.proofs.lemmas.List.{drop_all, get_or-set_same, get_or-set_other}
-use Rattle.std.proofs.lemmas.Bool.{cases_eq}
+use Rattle.std.specs.Option.{MatchOption}
+use Rattle.std.proofs.lemmas.List.{drop_all}
 use Rattle.std.proofs.lemmas.Bool.Decides.{same_from_decides, Decides-eqb, Decides-like}
 use Rattle.terms.specs.Terms.{Head, cell, symbol}
-use Rattle.terms.specs.Options.{onward, mapped, passes}
+use Rattle.terms.specs.Options.{onward, passes}
 use Rattle.terms.proofs.Letters.{zero_one}
 use Rattle.words.specs.Words.{word}
-use Rattle.rewriting.specs.Rules.{Rule, left_side, kept}
+use Rattle.rewriting.specs.Rules.{Rule, left_side}
 use Rattle.rewriting.specs.FixedTree.{same_head, constructor_at, has_at, without, joined, constructors_at}
 use Rattle.rewriting.proofs.Lists.{kept_all}
 use Rattle.drafts.specs.declared.draft.Draft.{Draft as Store}
 use Rattle.drafts.specs.Rules.{starts_with}
 use Rattle.drafts.specs.Books.{book_of}
 use Rattle.drafts.specs.Stores.{seen}
+use Rattle.trees.proofs.Places.{nth_there}
 use Rattle.trees.proofs.LeftSides.{left_at}
-use Rattle.trees.specs.Rows.{head_symbol, chosen, heads_at, is_head, is_met, put, new_heads}
+use Rattle.trees.specs.Rows.{head_symbol, chosen, heads_at, is_head, is_met, put, new_heads, IsNext}
 
 -- one step of a choice, and its end
 chosen_step : (i : ℕ) (m : List Bool) (R : List Rule) (b d : Bool) (r : Rule) → i < length m → slice_get R i ≡ Some r → b ≡ get_or m i d
@@ -38,8 +39,31 @@ chosen_nil (b ∷ m) = refl
 pub chosen_end : (i : ℕ) (m : List Bool) (R : List Rule) → length R ≤ i → chosen (drop i m) (drop i R) ≡ []
 chosen_end i m R h = ap (chosen (drop i m)) (drop_all i R h) ∙ chosen_nil (drop i m)
 
+-- rules that a mask leaves out are passed over
+chosen_skip : (n i : ℕ) (m : List Bool) (R : List Rule) → i + n ≤ length R → length R ≤ length m → ((k : ℕ) → i ≤ k → k < i + n → get_or m k false ≡ false) → chosen (drop i m) (drop i R) ≡ chosen (drop (i + n) m) (drop (i + n) R)
+chosen_skip zero i m R h l out = let e : i ≡ i + 0 = omega arith in ap (λ (j : ℕ). chosen (drop j m) (drop j R)) e
+chosen_skip (suc n) i m R h l out =
+    let r = nth_there R i (omega arith) in
+    let e : (i + 1) + n ≡ i + suc n = omega arith in
+    chosen_more i m R false false r.0 (omega arith) r.1 (sym (out i (omega arith) (omega arith)))
+    ∙ chosen_skip n (i + 1) m R (omega arith) l (λ k a b. out k (omega arith) (omega arith))
+    ∙ ap (λ (j : ℕ). chosen (drop j m) (drop j R)) e
+
+-- the first place from i on that the mask leaves, as a search told
+pub next_found : (m : List Bool) (R : List Rule) (i n : ℕ) (r : Option ℕ) → length R ≤ length m → n ≡ length R → i ≤ n
+    → MatchOption r ((k : ℕ) → i ≤ k → k < n → get_or m k false ≡ false) (λ j. (i ≤ j) × (j < n) × (get_or m j false ≡ true) × ((k : ℕ) → i ≤ k → k < j → get_or m k false ≡ false)) → IsNext m R i r
+next_found m R i n None l e f h =
+    let s : i + (n - i) ≡ n = omega arith in
+    chosen_skip (n - i) i m R (omega arith) l (λ k a b. h k a (omega arith)) ∙ chosen_end (i + (n - i)) m R (omega arith)
+next_found m R i n (Some j) l e f h =
+    let a = h.0 in
+    let b = h.1 in
+    let s : i + (j - i) ≡ j = omega arith in
+    let r = nth_there R j (omega arith) in
+    (r.0, r.1, chosen_skip (j - i) i m R (omega arith) l (λ k x y. h.3 k x (omega arith)) ∙ ap (λ (k : ℕ). chosen (drop k m) (drop k R)) s ∙ chosen_more j m R true false r.0 (omega arith) r.1 (sym h.2))
+
 -- a mask that has a test's answer at the place of each rule
-pub chosen_places : (t : Rule → Bool) (m : List Bool) (R : List Rule) → length R ≤ length m → ((k : ℕ) → k < length R → get_or m k false ≡ passes t (slice_get R k)) → chosen m R ≡ kept t R
+pub chosen_places : (t : Rule → Bool) (m : List Bool) (R : List Rule) → length R ≤ length m → ((k : ℕ) → k < length R → get_or m k false ≡ passes t (slice_get R k)) → chosen m R ≡ filter t R
 chosen_places t m [] l h = chosen_nil m
 chosen_places t [] (r ∷ R) l h = absurd (omega arith)
 chosen_places t (b ∷ m) (r ∷ R) l h =
@@ -47,30 +71,15 @@ chosen_places t (b ∷ m) (r ∷ R) l h =
     let q = chosen_places t m R (omega arith) (λ k i. h (suc k) (omega arith)) in
     cc
 
--- a list written from the front has at each place what was written there
-pub written_places : {A : Type 0} (f : ℕ → A) (xs : List A) (i : ℕ) (d y : A) → i < length xs → y ≡ f i → ((k : ℕ) → k < i → get_or xs k d ≡ f k) → (k : ℕ) → k < i + 1 → get_or (set xs i y) k d ≡ f k
-written_places f xs i d y h e w k l = elim (cases_eq k i) [
-  | inl q ↦ ap (λ (j : ℕ). get_or (set xs i y) j d) q ∙ get_or-set_same xs i y d h ∙ e ∙ ap f (sym q)
-  | inr n ↦ get_or-set_other xs i k y d n ∙ w k (omega arith)
-]
-
 -- a rule is one of a function where its left side starts with the function's letter
 same_letter : (f g : ℕ) → eqb (2 ^ 32 + f) (2 ^ 32 + g) ≡ eqb f g
 same_letter f g = same_from_decides (eqb (2 ^ 32 + f) (2 ^ 32 + g)) (eqb f g) (Decides-eqb (2 ^ 32 + f) (2 ^ 32 + g)) (Decides-like (eqb f g) (ap (λ (n : ℕ). 2 ^ 32 + n)) (λ e. omega arith) (Decides-eqb f g))
 
-pub starts_first : (f x : ℕ) (w : List ℕ) → 0 < length w → x ≡ 2 ^ 32 + f → eqb (get_or w 0 0) x ≡ starts_with f w
-starts_first f x [] h e = absurd (omega arith)
-starts_first f x (y ∷ w) h e = ap (eqb y) e
-
-pub starts_none : (f : ℕ) (w : List ℕ) → length w < 1 → false ≡ starts_with f w
-starts_none f [] h = refl
-starts_none f (y ∷ w) h = absurd (omega arith)
-
-starts_rule : (f : ℕ) (o : Option Rule) → passes (starts_with f) (mapped (λ r. word (left_side r)) o) ≡ passes (λ q. eqb q.function f) o
+starts_rule : (f : ℕ) (o : Option Rule) → passes (starts_with f) (option_map (λ r. word (left_side r)) o) ≡ passes (λ q. eqb q.function f) o
 starts_rule f None = refl
 starts_rule f (Some r) = same_letter r.function f
 
-pub starts_at : (a : Store) (i f : ℕ) (o : Option (List ℕ)) → o ≡ mapped (λ q. q.left) (slice_get (seen a).rules i) → passes (starts_with f) o ≡ passes (λ q. eqb q.function f) (slice_get (book_of (seen a)).rules i)
+pub starts_at : (a : Store) (i f : ℕ) (o : Option (List ℕ)) → o ≡ option_map (λ q. q.left) (slice_get (seen a).rules i) → passes (starts_with f) o ≡ passes (λ q. eqb q.function f) (slice_get (book_of (seen a)).rules i)
 starts_at a i f o e = ap (passes (starts_with f)) (e ∙ left_at a i) ∙ starts_rule f (slice_get (book_of (seen a)).rules i)
 
 -- no rule has a cell at a position
@@ -83,7 +92,7 @@ has_symbol s None = refl
 has_symbol s (Some (cell n)) = refl
 has_symbol s (Some (symbol z)) = refl
 
-pub chosen_kept : (p : List ℕ) (s : ℕ) (m : List Bool) (R : List Rule) → chosen (map (is_head s) (heads_at p m R)) R ≡ kept (has_at p (symbol s)) (chosen m R)
+pub chosen_kept : (p : List ℕ) (s : ℕ) (m : List Bool) (R : List Rule) → chosen (map (is_head s) (heads_at p m R)) R ≡ filter (has_at p (symbol s)) (chosen m R)
 chosen_kept p s [] R = refl
 chosen_kept p s (b ∷ m) [] = refl
 chosen_kept p s (false ∷ m) (r ∷ R) = chosen_kept p s m R
@@ -104,16 +113,16 @@ met_push s (x ∷ hs) h = ap (λ b. is_head s x || b) (met_push s hs h) ∙ or_s
     or_swap false true z = refl
     or_swap false false z = refl
 
-kept_same : {A : Type 0} (t u : A → Bool) → ((x : A) → t x ≡ u x) → (xs : List A) → kept t xs ≡ kept u xs
+kept_same : {A : Type 0} (t u : A → Bool) → ((x : A) → t x ≡ u x) → (xs : List A) → filter t xs ≡ filter u xs
 kept_same t u h [] = refl
 kept_same t u h (x ∷ xs) = let e = h x in let q = kept_same t u h xs in cc
 
-kept_without : (t : Head → Bool) (c : Head) (ds : List Head) → kept t (without c ds) ≡ kept (λ d. cond (same_head c d) false (t d)) ds
+kept_without : (t : Head → Bool) (c : Head) (ds : List Head) → filter t (without c ds) ≡ filter (λ d. cond (same_head c d) false (t d)) ds
 kept_without t c [] = refl
 kept_without t c (d ∷ ds) = go (same_head c d) (kept_without t c ds)
   where
-    go : (b : Bool) → kept t (without c ds) ≡ kept (λ d. cond (same_head c d) false (t d)) ds
-        → kept t (cond b (without c ds) (d ∷ without c ds)) ≡ cond (cond b false (t d)) (d ∷ kept (λ d. cond (same_head c d) false (t d)) ds) (kept (λ d. cond (same_head c d) false (t d)) ds)
+    go : (b : Bool) → filter t (without c ds) ≡ filter (λ d. cond (same_head c d) false (t d)) ds
+        → filter t (cond (not b) (d ∷ without c ds) (without c ds)) ≡ cond (cond b false (t d)) (d ∷ filter (λ d. cond (same_head c d) false (t d)) ds) (filter (λ d. cond (same_head c d) false (t d)) ds)
     go true e = e
     go false e = cc
 
@@ -134,7 +143,7 @@ unmet_some before s (symbol z) = go (eqb s z) (is_met z before) ∙ ap (λ b. no
 
 -- what is left of some constructors is what is new at some places
 abbrev New : List (Option ℕ) → List Head → List (Option ℕ) → Type 0
-New before cs hs = kept (unmet before) cs ≡ map symbol (new_heads before hs)
+New before cs hs = filter (unmet before) cs ≡ map symbol (new_heads before hs)
 
 new_none : (before : List (Option ℕ)) (cs : List Head) (hs : List (Option ℕ)) → New (before ++ (None ∷ [])) cs hs → New before cs (None ∷ hs)
 new_none before cs hs e = kept_same (unmet before) (unmet (before ++ (None ∷ []))) (unmet_none before) cs ∙ e
@@ -155,7 +164,7 @@ new_at before (Some (symbol s)) cs hs h e = new_some before s cs hs (e (Some s))
 constructors_unmet : (p : List ℕ) (before : List (Option ℕ)) (m : List Bool) (R : List Rule) → CellsNone p R → New before (constructors_at p (chosen m R)) (heads_at p m R)
 constructors_unmet p before [] R h = refl
 constructors_unmet p before (b ∷ m) [] h =
-    new_none before [] (heads_at p m []) (ap (λ (R : List Rule). kept (unmet (before ++ (None ∷ []))) (constructors_at p R)) (sym (chosen_nil m)) ∙ constructors_unmet p (before ++ (None ∷ [])) m [] h)
+    new_none before [] (heads_at p m []) (ap (λ (R : List Rule). filter (unmet (before ++ (None ∷ []))) (constructors_at p R)) (sym (chosen_nil m)) ∙ constructors_unmet p (before ++ (None ∷ [])) m [] h)
 constructors_unmet p before (false ∷ m) (r ∷ R) h = new_none before (constructors_at p (chosen m R)) (heads_at p m R) (constructors_unmet p (before ++ (None ∷ [])) m R (λ q i. h q (Memᴰ.tail i)))
 constructors_unmet p before (true ∷ m) (r ∷ R) h =
     new_at before (constructor_at p r) (constructors_at p (chosen m R)) (heads_at p m R) (h r (Memᴰ.head refl)) (λ x. constructors_unmet p (before ++ (x ∷ [])) m R (λ q i. h q (Memᴰ.tail i)))

@@ -1,5 +1,6 @@
 -- The rules of a draft: how long their left sides are, that each function has one, and that its trees have room.
-use Rattle.std.proofs.Common.{◌≡◌, ℕ, zero, suc, ◌+◌, ◌<◌, ◌≤◌, Bool, true, false, cond, eqb, leb, ◌≢◌, ◌⊎◌, List, [], ◌∷◌, ◌++◌, map, length, replicate, Some, None, sym, refl, ap, ◌∙◌, subst, inl, inr, arith}
+use Rattle.std.proofs.Common.{◌≡◌, ℕ, zero, suc, ◌+◌, ◌<◌, ◌≤◌, Bool, true, false, cond, eqb, leb, ◌≢◌, ◌⊎◌, List, [], ◌∷◌, ◌++◌, map, length, replicate, Some, None, sym, refl, ap, ◌∙◌, subst, inl, inr, arith, filter}
+use mathlib.Core.List.Memᴰ
 use mathlib.Core.List.{Memᴰ}
 use Rattle.std.specs.List.{slice_get}
 use Rattle.std.proofs.lemmas.List.{length-append, length-map, take_all}
@@ -8,11 +9,10 @@ use Rattle.terms.specs.Terms.{Term, var, con, fun, Terms, nil, ◌▸◌}
 use Rattle.terms.proofs.Letters.{zero_one}
 use Rattle.words.specs.Words.{word, words}
 use Rattle.rewriting.specs.Substitutions.{Occurrence, in_first, in_later, moved, occurrences, all_occurrences, variables}
-use Rattle.rewriting.specs.Rules.{Rule, left_side, Book, kept, rules_of, Linear, SortCorrect}
+use Rattle.rewriting.specs.Rules.{Rule, left_side, Book, rules_of, Linear, SortCorrect}
 use Rattle.rewriting.specs.FixedTree.{size, sizes}
 use Rattle.rewriting.specs.Promises.{Ruled, NoLonger}
 use Rattle.rewriting.proofs.Lists.{mem_kept, kept_mem}
-use Rattle.rewriting.proofs.Occurrences.{mem_map, map_mem}
 use Rattle.drafts.specs.declared.draft.Draft.{Draft as Store}
 use Rattle.drafts.specs.Drafts.{in_turn, awaited, letters_in, longest_side}
 use Rattle.drafts.specs.Statements.{written}
@@ -49,7 +49,7 @@ pub draft_short : (a : Store) (f : ℕ) → NoLonger (book_of (seen a)) f longes
 draft_short a f r m =
     let s = book_rules a in
     let i = (kept_mem (λ q. eqb q.function f) (book_of (seen a)).rules m).0 in
-    let w : Memᴰ (written r) (seen a).rules = subst (Memᴰ (written r)) s.as_written (mem_map written i) in
+    let w : Memᴰ (written r) (seen a).rules = subst (Memᴰ (written r)) s.as_written (Memᴰ.map written i) in
     let l = (s.short (written r) w).1 in
     let k = letters (left_side r) in
     omega arith
@@ -89,26 +89,26 @@ draft_ruled a f none h =
     let some : 0 < p.0 = (k.promises f h.0 p.0 h.1 p.1).1 h.2 in
     let turn : Memᴰ f (in_turn 0 D.promised) = (let z : 0 + f ≡ f = omega arith in subst (λ (x : ℕ). Memᴰ x (in_turn 0 D.promised)) z (in_turn_mem 0 D.promised f p.0 p.1 some)) in
     let all : map (λ (r : Rule). r.function) B.rules ≡ in_turn 0 D.promised = s.in_order ∙ take_all (length D.rules) (in_turn 0 D.promised) (nth_none (in_turn 0 D.promised) (length D.rules) none) in
-    let x = map_mem (λ (r : Rule). r.function) B.rules (subst (Memᴰ f) (sym all) turn) in
-    record { right = draft_right a f; some = (x.0, mem_kept (λ q. eqb q.function f) x.1 (eq-eqb x.0.function f (sym x.2))) }
+    let x = Memᴰ.of_map (λ (r : Rule). r.function) B.rules (subst (Memᴰ f) (sym all) turn) in
+    record { right = draft_right a f; some = (x.0, mem_kept (λ q. eqb q.function f) x.1 (eq-eqb x.0.function f x.2)) }
 
 -- the rules of the symbols from s on, and of s alone
 abbrev from_on : ℕ → Rule → Bool
 from_on s r = leb s r.function
 
-owed_step : (s : ℕ) (rs : List Rule) → cost longest_side (kept (from_on s) rs) ≡ cost longest_side (kept (λ r. eqb r.function s) rs) + cost longest_side (kept (from_on (suc s)) rs)
+owed_step : (s : ℕ) (rs : List Rule) → cost longest_side (filter (from_on s) rs) ≡ cost longest_side (filter (λ r. eqb r.function s) rs) + cost longest_side (filter (from_on (suc s)) rs)
 owed_step s [] = refl
 owed_step s (r ∷ rs) = go (cases_lt s r.function) (cases_eq r.function s) (owed_step s rs)
   where
     Goal : Bool → Bool → Bool → Type 0
-    Goal x y z = cost longest_side (cond x (r ∷ kept (from_on s) rs) (kept (from_on s) rs))
-        ≡ cost longest_side (cond y (r ∷ kept (λ q. eqb q.function s) rs) (kept (λ q. eqb q.function s) rs)) + cost longest_side (cond z (r ∷ kept (from_on (suc s)) rs) (kept (from_on (suc s)) rs))
+    Goal x y z = cost longest_side (cond x (r ∷ filter (from_on s) rs) (filter (from_on s) rs))
+        ≡ cost longest_side (cond y (r ∷ filter (λ q. eqb q.function s) rs) (filter (λ q. eqb q.function s) rs)) + cost longest_side (cond z (r ∷ filter (from_on (suc s)) rs) (filter (from_on (suc s)) rs))
 
     at : (x y z : Bool) → leb s r.function ≡ x → eqb r.function s ≡ y → leb (suc s) r.function ≡ z → Goal x y z → Goal (leb s r.function) (eqb r.function s) (leb (suc s) r.function)
     at x y z e f g h = subst (λ (b : Bool). Goal b (eqb r.function s) (leb (suc s) r.function)) (sym e) (subst (λ (b : Bool). Goal x b (leb (suc s) r.function)) (sym f) (subst (Goal x y) (sym g) h))
 
     go : (s < r.function) ⊎ (r.function ≤ s) → (r.function ≡ s) ⊎ (r.function ≢ s)
-        → cost longest_side (kept (from_on s) rs) ≡ cost longest_side (kept (λ q. eqb q.function s) rs) + cost longest_side (kept (from_on (suc s)) rs)
+        → cost longest_side (filter (from_on s) rs) ≡ cost longest_side (filter (λ q. eqb q.function s) rs) + cost longest_side (filter (from_on (suc s)) rs)
         → Goal (leb s r.function) (eqb r.function s) (leb (suc s) r.function)
     go (inl l) (inl e) h = absurd (omega arith)
     go (inl l) (inr n) h = at true false true (le-leb s r.function (omega arith)) (ne_eqb r.function s n) (le-leb (suc s) r.function (omega arith)) (omega arith)
@@ -119,12 +119,12 @@ pub owed_split : (B : Book) (s : ℕ) → owed B s ≡ cost longest_side (rules_
 owed_split B s = owed_step s B.rules
 
 -- all trees have room
-owed_letters : (rs : List Rule) → cost longest_side (kept (from_on 0) rs) ≤ letters_in (map written rs)
+owed_letters : (rs : List Rule) → cost longest_side (filter (from_on 0) rs) ≤ letters_in (map written rs)
 owed_letters [] = omega arith
 owed_letters (r ∷ rs) =
     let h = owed_letters rs in
     let l = letters (left_side r) in
-    subst (λ (b : Bool). cost longest_side (cond b (r ∷ kept (from_on 0) rs) (kept (from_on 0) rs)) ≤ letters_in (map written (r ∷ rs))) (sym (le-leb 0 r.function (omega arith))) (omega arith)
+    subst (λ (b : Bool). cost longest_side (cond b (r ∷ filter (from_on 0) rs) (filter (from_on 0) rs)) ≤ letters_in (map written (r ∷ rs))) (sym (le-leb 0 r.function (omega arith))) (omega arith)
 
 pub draft_room : (a : Store) → owed (book_of (seen a)) 0 ≤ 1024
 draft_room a =

@@ -1,12 +1,12 @@
 -- Trees grow node by node.
-use Rattle.std.proofs.Common.{◌≡◌, ℕ, zero, suc, ◌+◌, ◌-◌, ◌<◌, ◌≤◌, Bool, true, false, ◌&&◌, List, [], ◌∷◌, ◌++◌, map, length, get_or, take, drop, Some, None, Option, sym, refl, ap, ◌∙◌, subst, ap₂, append_assoc, append-nil, arith}
+use Rattle.std.proofs.Common.{◌≡◌, ℕ, zero, suc, ◌+◌, ◌-◌, ◌<◌, ◌≤◌, Bool, true, false, ◌&&◌, List, [], ◌∷◌, ◌++◌, map, length, get_or, take, drop, Some, None, Option, sym, refl, ap, ◌∙◌, subst, ap₂, append_assoc, append-nil, arith, option_map, filter}
 use mathlib.Core.List.Memᴰ
 use mathlib.Core.List.{Memᴰ}
-use Rattle.std.proofs.lemmas.List.{map-append, take_all, drop_all, take_more, drop_more, take-append-drop}
+use Rattle.std.proofs.lemmas.List.{map-append, length-append, take_all, drop_all, take_more, drop_more, take-append-drop}
 use Rattle.terms.specs.Terms.{Head, symbol}
-use Rattle.terms.specs.Options.{onward, mapped}
+use Rattle.terms.specs.Options.{onward}
 use Rattle.terms.specs.Signatures.{Signature}
-use Rattle.rewriting.specs.Rules.{Rule, Book, kept}
+use Rattle.rewriting.specs.Rules.{Rule, Book}
 use Rattle.rewriting.specs.Trees.{Node as Tree, at_rule, branch, Nodes as Children, no_child, child}
 use Rattle.rewriting.specs.FixedTree.{has_at, first_shared, constructors_at, children}
 use Rattle.rewriting.specs.Growing.{sole_open, opened_under, grow, paid_under}
@@ -59,12 +59,12 @@ paid_split most n p rs (c ∷ cs) ds = let h = paid_split most n p rs cs ds in o
 
 -- a child that is not there leaves no children
 pub children_none : (tree : Head → Option Tree) {c : Head} {cs : List Head} → Memᴰ c cs → tree c ≡ None → children tree cs ≡ None
-children_none tree (Memᴰ.head {x = d} {xs = cs} h) e = ap (λ (o : Option Tree). onward o (λ n. mapped (child d n) (children tree cs))) (ap tree (sym h) ∙ e)
+children_none tree (Memᴰ.head {x = d} {xs = cs} h) e = ap (λ (o : Option Tree). onward o (λ n. option_map (child d n) (children tree cs))) (ap tree (sym h) ∙ e)
 children_none tree (Memᴰ.tail {x = d} {xs = cs} m) e = go (tree d) (children_none tree m e)
   where
-    go : (o : Option Tree) → children tree cs ≡ None → onward o (λ n. mapped (child d n) (children tree cs)) ≡ None
+    go : (o : Option Tree) → children tree cs ≡ None → onward o (λ n. option_map (child d n) (children tree cs)) ≡ None
     go None h = refl
-    go (Some t) h = ap (mapped (child d t)) h
+    go (Some t) h = ap (option_map (child d t)) h
 
 pub children_more : (tree : Head → Option Tree) (c : Head) (cs : List Head) {t : Tree} {ts : Children} → tree c ≡ Some t → children tree cs ≡ Some ts → children tree (c ∷ cs) ≡ Some (child c t ts)
 children_more tree c cs e h = rw (e, h) refl
@@ -72,7 +72,7 @@ children_more tree c cs e h = rw (e, h) refl
 module _ (S : Signature) where
   -- the tree below a branch at p, under a constructor
   abbrev pub under : ℕ → List (List ℕ) → List Rule → List ℕ → Head → Option Tree
-  under n ps rs p c = grow S n (opened_under S ps p c) (kept (has_at p c) rs)
+  under n ps rs p c = grow S n (opened_under S ps p c) (filter (has_at p c) rs)
 
   -- what is grown, by cases
   pub grows_rule : (n : ℕ) (ps : List (List ℕ)) (rs : List Rule) (r : Rule) → 0 < n → sole_open ps rs ≡ Some r → grow S n ps rs ≡ Some (at_rule r)
@@ -80,11 +80,11 @@ module _ (S : Signature) where
   grows_rule (suc n) ps rs r h e = rw e refl
 
   pub grows_branch : (n : ℕ) (ps : List (List ℕ)) (rs : List Rule) (p : List ℕ) → 0 < n → sole_open ps rs ≡ None → first_shared ps rs ≡ Some p
-      → grow S n ps rs ≡ mapped (branch p) (children (under (n - 1) ps rs p) (constructors_at p rs))
+      → grow S n ps rs ≡ option_map (branch p) (children (under (n - 1) ps rs p) (constructors_at p rs))
   grows_branch zero ps rs p h e f = absurd (omega arith)
   grows_branch (suc n) ps rs p h e f =
       let i : n ≡ suc n - 1 = omega arith in
-      rw (e, f) (ap (λ (k : ℕ). mapped (branch p) (children (under k ps rs p) (constructors_at p rs))) i)
+      rw (e, f) (ap (λ (k : ℕ). option_map (branch p) (children (under k ps rs p) (constructors_at p rs))) i)
 
   pub grows_none : (n : ℕ) (ps : List (List ℕ)) (rs : List Rule) → sole_open ps rs ≡ None → first_shared ps rs ≡ None → grow S n ps rs ≡ None
   grows_none zero ps rs e f = refl
@@ -98,7 +98,7 @@ module _ (S : Signature) where
     pub told : complete ≡ are_complete S subtrees
     pub more : List Node
     pub after : nodes_of b ≡ nodes_of a ++ more
-    pub within : b.count + owed ≤ a.count + most
+    pub within : length (nodes_of b) + owed ≤ length (nodes_of a) + most
 
   -- no child yet
   pub none_so_far : (R : List Rule) (tree : Head → Option Tree) (owed most : ℕ) (a : Store) → owed ≤ most
@@ -123,9 +123,9 @@ module _ (S : Signature) where
   pub one_more : (R : List Rule) (tree : Head → Option Tree) (done : List Head) (owed most s due : ℕ) (a b c d : Store) (first : Option ℕ) (complete : Bool) (g : Grown) (node : Node) (t : Tree)
       → SoFar R tree done (owed + due) most a b first complete
       → Added b c due → tree (symbol s) ≡ Some t → Is R (nodes_of c) g.kind t → g.complete ≡ is_complete S t
-      → nodes_of d ≡ nodes_of c ++ (node ∷ []) → d.count ≡ c.count + 1 → node.symbol ≡ s → node.kind ≡ g.kind → node.next ≡ first
+      → nodes_of d ≡ nodes_of c ++ (node ∷ []) → node.symbol ≡ s → node.kind ≡ g.kind → node.next ≡ first
       → SoFar R tree (symbol s ∷ done) owed most a d (Some (length (nodes_of c))) (complete && g.complete)
-  one_more R tree done owed most s due a b c d first complete g node t h z e i k pushed one y kind next =
+  one_more R tree done owed most s due a b c d first complete g node t h z e i k pushed y kind next =
       let l = linked_still z.more h.linked in
       let m : Linked R (nodes_of c) first h.subtrees = subst (λ (ns : List Node). Linked R ns first h.subtrees) (sym z.after) l in
       let ns = nodes_of c ++ (node ∷ []) in
@@ -134,6 +134,7 @@ module _ (S : Signature) where
       (subst (λ (q : Kind). Is R ns q t) (sym kind) (is_still (node ∷ []) i)) (subst (λ (o : Option ℕ). Linked R ns o h.subtrees) (sym next) (linked_still (node ∷ []) m)) in
       let w = h.within in
       let f = z.fewer in
+      let one : length (nodes_of d) ≡ length (nodes_of c) + 1 = ap length pushed ∙ length-append (nodes_of c) (node ∷ []) in
       record {
         subtrees = child (symbol s) t h.subtrees;
         built = children_more tree (symbol s) done e h.built;
@@ -202,7 +203,7 @@ module _ (B : Book) (ps : List (List ℕ)) (m : List Bool) (n : ℕ) (p : List �
 
   -- what the constructor of a new symbol is paid
   abbrev pub due : ℕ → ℕ
-  due s = cost (n - 1) (kept (has_at p (symbol s)) left)
+  due s = cost (n - 1) (filter (has_at p (symbol s)) left)
 
   pub owed_more : (i s : ℕ) → 0 < i → i ≤ length hs → Some s ≡ new_head (take (i - 1) hs) (get_or hs (i - 1) None) → owed i ≡ owed (i - 1) + due s
   owed_more i s l k e =
@@ -217,17 +218,17 @@ module _ (B : Book) (ps : List (List ℕ)) (m : List Bool) (n : ℕ) (p : List �
 
   -- room is left for the child of a new symbol
   pub room_left : (i s : ℕ) (a b : Store) (first : Option ℕ) (complete : Bool) → 0 < i → i ≤ length hs → Some s ≡ new_head (take (i - 1) hs) (get_or hs (i - 1) None)
-      → GrownTo i a b first complete → b.count + due s ≤ a.count + paid_under longest_side (n - 1) p left all
+      → GrownTo i a b first complete → length (nodes_of b) + due s ≤ length (nodes_of a) + paid_under longest_side (n - 1) p left all
   room_left i s a b first complete l k e h = let w = h.within in let q = owed_more i s l k e in omega arith
 
   pub grown_more : (i s : ℕ) (a b c d : Store) (first : Option ℕ) (complete : Bool) (g : Grown) (node : Node) (t : Tree)
       → 0 < i → i ≤ length hs → Some s ≡ new_head (take (i - 1) hs) (get_or hs (i - 1) None) → GrownTo i a b first complete
       → Added b c (due s) → under B.signature (n - 1) ps left p (symbol s) ≡ Some t → Is B.rules (nodes_of c) g.kind t → g.complete ≡ is_complete B.signature t
-      → nodes_of d ≡ nodes_of c ++ (node ∷ []) → d.count ≡ c.count + 1 → node.symbol ≡ s → node.kind ≡ g.kind → node.next ≡ first
+      → nodes_of d ≡ nodes_of c ++ (node ∷ []) → node.symbol ≡ s → node.kind ≡ g.kind → node.next ≡ first
       → GrownTo (i - 1) a d (Some (length (nodes_of c))) (complete && g.complete)
-  grown_more i s a b c d first complete g node t l k e h added tree is told pushed one y kind next =
+  grown_more i s a b c d first complete g node t l k e h added tree is told pushed y kind next =
       let z = heads_step hs i (Some s) l k e in
       subst (λ (xs : List ℕ). SoFar B.signature B.rules (under B.signature (n - 1) ps left p) (map symbol xs) (owed (i - 1)) (paid_under longest_side (n - 1) p left all) a d (Some (length (nodes_of c))) (complete && g.complete)) (sym z.0)
       (one_more B.signature B.rules (under B.signature (n - 1) ps left p) (done i) (owed (i - 1)) (paid_under longest_side (n - 1) p left all) s (due s) a b c d first complete g node t
       (subst (λ (x : ℕ). SoFar B.signature B.rules (under B.signature (n - 1) ps left p) (done i) x (paid_under longest_side (n - 1) p left all) a b first complete) (owed_more i s l k e) h)
-      added tree is told pushed one y kind next)
+      added tree is told pushed y kind next)

@@ -1,15 +1,11 @@
 -- The left sides of a draft's rules: what their words have at a position.
-use Rattle.std.proofs.Common.{◌≡◌, ℕ, zero, suc, ◌+◌, ◌<◌, ◌≤◌, Bool, ◌&&◌, ltb, List, [], ◌∷◌, length, get_or, take, drop, Some, None, Option, sym, refl, ap, ◌∙◌, subst, arith, Bor}
+use Rattle.std.proofs.Common.{◌≡◌, ℕ, zero, suc, ◌<◌, ◌≤◌, Bool, false, ◌&&◌, List, [], ◌∷◌, map, length, take, drop, Some, None, Option, sym, refl, ap, ◌∙◌, subst, option_map}
 use mathlib.Core.List.{Memᴰ}
-use Rattle.std.specs.List.{slice_get}
-use Rattle.std.specs.Option.{option_map as ReadOf}
-use Rattle.std.specs.Slice.{IsGetResult}
-use Rattle.std.proofs.lemmas.List.{length-map, at_drop_more, at_drop_all}
-use Rattle.std.proofs.lemmas.Bool.{lt-ltb, le-ltb}
-use Rattle.std.proofs.lemmas.Bool.Decides.{nat_tests}
-use Rattle.std.proofs.lemmas.Option.{slice_get_read, slice_get_past}
+use Rattle.std.specs.List.{slice_get, list_all}
+use Rattle.std.proofs.lemmas.List.{length-map}
+use Rattle.std.proofs.lemmas.Option.{slice_get_past}
 use Rattle.terms.specs.Terms.{Head, cell, symbol, Fn, plus, minus, atmost, own, Term, var, con, fun, Terms, nil, ◌▸◌}
-use Rattle.terms.specs.Options.{onward, mapped, passes}
+use Rattle.terms.specs.Options.{onward, passes}
 use Rattle.terms.specs.Letters.{letter_of}
 use Rattle.terms.specs.Signatures.{Signature}
 use Rattle.terms.specs.Roots.{Root, variable, head, call, letter, number, Stands}
@@ -23,7 +19,7 @@ use Rattle.words.specs.Statements.{Cuts}
 use Rattle.words.proofs.Rows.{reads_back}
 use Rattle.words.proofs.Cuts.{cuts_part}
 use Rattle.rewriting.specs.Rules.{Rule, left_side}
-use Rattle.rewriting.specs.FixedTree.{constructor, constructor_at, is_there}
+use Rattle.rewriting.specs.FixedTree.{constructor, constructor_at}
 use Rattle.rewriting.specs.Growing.{is_variable, variable_at, all_variables}
 use Rattle.drafts.specs.declared.draft.Draft.{Draft as Store}
 use Rattle.drafts.specs.Drafts.{Sides}
@@ -31,7 +27,9 @@ use Rattle.drafts.specs.Statements.{written, Pattern, Patterns}
 use Rattle.drafts.specs.Books.{rule_between, rule_of, rule_before, rules_read, book_of}
 use Rattle.drafts.specs.Stores.{seen}
 use Rattle.drafts.proofs.Sound.{book_rules}
-use Rattle.trees.proofs.Places.{nth_map, nth_mem}
+use Rattle.trees.proofs.Places.{nth_map, nth_mem, nth_there}
+use Rattle.trees.specs.declared.path.Path.{Path}
+use Rattle.trees.specs.Views.{steps_of}
 use Rattle.trees.specs.Rows.{letter_in, head_symbol, root_symbol, constructor_symbol, variable_letter, symbol_at}
 
 -- what holds of a term and, through roots, of its arguments holds of its parts
@@ -64,14 +62,9 @@ nth_cut (suc m) n [] x v e = nth_front n [] x v e
 nth_cut (suc m) n (y ∷ w) x v e = nth_cut m n w x v e
 
 -- what stands at a place of a list
-mapped_mapped : {A B C : Type 0} (g : B → C) (f : A → B) (o : Option A) → mapped g (mapped f o) ≡ mapped (λ x. g (f x)) o
+mapped_mapped : {A B C : Type 0} (g : B → C) (f : A → B) (o : Option A) → option_map g (option_map f o) ≡ option_map (λ x. g (f x)) o
 mapped_mapped g f None = refl
 mapped_mapped g f (Some x) = refl
-
-nth_is : {A : Type 0} (xs : List A) (i : ℕ) → is_there (slice_get xs i) ≡ ltb i (length xs)
-nth_is [] i = sym (le-ltb i 0 (omega arith))
-nth_is (x ∷ xs) zero = sym (lt-ltb 0 (suc (length xs)) (omega arith))
-nth_is (x ∷ xs) (suc i) = let h = nth_is xs i in grind (arith, nat_tests)
 
 -- what a term begins with
 abbrev root : Term → Root
@@ -103,10 +96,10 @@ module _ (S : Signature) where
   part_fits = part_has (Fits S) (AllFit S) (λ c ts f. f.2) (λ g ts f. f.2) (λ t ts f. f.0) (λ t ts f. f.1)
 
   -- the letter that the word of a term has at a position is that of the part's root
-  letter_part : (t : Term) (p : List ℕ) → Fits S t → letter_in S p (word t) ≡ mapped (λ u. number (root u)) (part t p)
+  letter_part : (t : Term) (p : List ℕ) → Fits S t → letter_in S p (word t) ≡ option_map (λ u. number (root u)) (part t p)
   letter_part t p f = go (part t p) (cuts_part S p (word t) t f refl)
     where
-      go : (o : Option Term) → Cuts t p (word t) o (part_at S p (word t)) → letter_in S p (word t) ≡ mapped (λ u. number (root u)) o
+      go : (o : Option Term) → Cuts t p (word t) o (part_at S p (word t)) → letter_in S p (word t) ≡ option_map (λ u. number (root u)) o
       go None e = ap (λ (r : Option Part). onward r (λ q. slice_get (word t) q.start)) e
       go (Some u) c =
           let q = c.0 in
@@ -134,14 +127,14 @@ module _ (S : Signature) where
   symbol_part : (t : Term) (p : List ℕ) → Fits S t → onward (letter_in S p (word t)) (constructor_symbol S) ≡ onward (onward (part t p) constructor) head_symbol
   symbol_part t p f = ap (λ (o : Option ℕ). onward o (constructor_symbol S)) (letter_part t p f) ∙ go (part t p) refl
     where
-      go : (o : Option Term) → part t p ≡ o → onward (mapped (λ u. number (root u)) o) (constructor_symbol S) ≡ onward (onward o constructor) head_symbol
+      go : (o : Option Term) → part t p ≡ o → onward (option_map (λ u. number (root u)) o) (constructor_symbol S) ≡ onward (onward o constructor) head_symbol
       go None e = refl
       go (Some u) e = symbol_number u (part_fits t p u f e)
 
   variable_part : (t : Term) (p : List ℕ) → Fits S t → passes (λ x. variable_letter (letter_of x)) (letter_in S p (word t)) ≡ passes is_variable (part t p)
   variable_part t p f = ap (passes (λ x. variable_letter (letter_of x))) (letter_part t p f) ∙ go (part t p) refl
     where
-      go : (o : Option Term) → part t p ≡ o → passes (λ x. variable_letter (letter_of x)) (mapped (λ u. number (root u)) o) ≡ passes is_variable o
+      go : (o : Option Term) → part t p ≡ o → passes (λ x. variable_letter (letter_of x)) (option_map (λ u. number (root u)) o) ≡ passes is_variable o
       go None e = refl
       go (Some u) e = variable_number u (part_fits t p u f e)
 
@@ -167,10 +160,10 @@ module _ (S : Signature) where
 pub rule_count_is : (a : Store) → length (book_of (seen a)).rules ≡ length (seen a).rules
 rule_count_is a = sym (length-map (book_of (seen a)).rules written) ∙ ap length (book_rules a).as_written
 
-pub left_at : (a : Store) (i : ℕ) → mapped (λ (q : Sides). q.left) (slice_get (seen a).rules i) ≡ mapped (λ (r : Rule). word (left_side r)) (slice_get (book_of (seen a)).rules i)
+pub left_at : (a : Store) (i : ℕ) → option_map (λ (q : Sides). q.left) (slice_get (seen a).rules i) ≡ option_map (λ (r : Rule). word (left_side r)) (slice_get (book_of (seen a)).rules i)
 left_at a i =
-    ap (λ (qs : List Sides). mapped (λ (q : Sides). q.left) (slice_get qs i)) (sym (book_rules a).as_written)
-    ∙ ap (mapped (λ (q : Sides). q.left)) (nth_map written (book_of (seen a)).rules i)
+    ap (λ (qs : List Sides). option_map (λ (q : Sides). q.left) (slice_get qs i)) (sym (book_rules a).as_written)
+    ∙ ap (option_map (λ (q : Sides). q.left)) (nth_map written (book_of (seen a)).rules i)
     ∙ mapped_mapped (λ (q : Sides). q.left) written (slice_get (book_of (seen a)).rules i)
 
 -- what the code reads at a position of a rule's left side, if the rule and the part are there
@@ -178,19 +171,16 @@ module _ (a : Store) (p : List ℕ) (i : ℕ) where
   fits_at : (r : Rule) → slice_get (book_of (seen a)).rules i ≡ Some r → Fits (seen a).signature (left_side r)
   fits_at r e = rules_fit (seen a).signature (seen a).rules r (nth_mem (book_of (seen a)).rules i e)
 
-  -- the word of the left side, and its letter there
-  module _ (S : Signature) (s : S ≡ (seen a).signature) (w : Option (List ℕ)) (x : Option ℕ) (e : w ≡ mapped (λ (q : Sides). q.left) (slice_get (seen a).rules i)) (f : x ≡ onward w (letter_in S p)) where
-    left_letter : x ≡ onward (mapped (λ (r : Rule). word (left_side r)) (slice_get (book_of (seen a)).rules i)) (letter_in (seen a).signature p)
-    left_letter = f ∙ ap (λ (o : Option (List ℕ)). onward o (letter_in S p)) (e ∙ left_at a i) ∙ ap (λ (T : Signature). onward (mapped (λ (r : Rule). word (left_side r)) (slice_get (book_of (seen a)).rules i)) (letter_in T p)) s
+  -- the letter there
+  module _ (x : Option ℕ) (f : x ≡ onward (option_map (λ (q : Sides). q.left) (slice_get (seen a).rules i)) (letter_in (seen a).signature p)) where
+    left_letter : x ≡ onward (option_map (λ (r : Rule). word (left_side r)) (slice_get (book_of (seen a)).rules i)) (letter_in (seen a).signature p)
+    left_letter = f ∙ ap (λ (o : Option (List ℕ)). onward o (letter_in (seen a).signature p)) (left_at a i)
 
-    pub left_symbol : onward x (constructor_symbol S) ≡ onward (slice_get (book_of (seen a)).rules i) (symbol_at p)
-    left_symbol =
-        ap (λ (T : Signature). onward x (constructor_symbol T)) s
-        ∙ ap (λ (o : Option ℕ). onward o (constructor_symbol (seen a).signature)) left_letter
-        ∙ go (slice_get (book_of (seen a)).rules i) refl
+    pub left_symbol : onward x (constructor_symbol (seen a).signature) ≡ onward (slice_get (book_of (seen a)).rules i) (symbol_at p)
+    left_symbol = ap (λ (o : Option ℕ). onward o (constructor_symbol (seen a).signature)) left_letter ∙ go (slice_get (book_of (seen a)).rules i) refl
       where
         go : (o : Option Rule) → slice_get (book_of (seen a)).rules i ≡ o
-            → onward (onward (mapped (λ (r : Rule). word (left_side r)) o) (letter_in (seen a).signature p)) (constructor_symbol (seen a).signature) ≡ onward o (symbol_at p)
+            → onward (onward (option_map (λ (r : Rule). word (left_side r)) o) (letter_in (seen a).signature p)) (constructor_symbol (seen a).signature) ≡ onward o (symbol_at p)
         go None h = refl
         go (Some r) h = symbol_part (seen a).signature (left_side r) p (fits_at r h)
 
@@ -198,7 +188,7 @@ module _ (a : Store) (p : List ℕ) (i : ℕ) where
     left_variable = ap (passes (λ y. variable_letter (letter_of y))) left_letter ∙ go (slice_get (book_of (seen a)).rules i) refl
       where
         go : (o : Option Rule) → slice_get (book_of (seen a)).rules i ≡ o
-            → passes (λ y. variable_letter (letter_of y)) (onward (mapped (λ (r : Rule). word (left_side r)) o) (letter_in (seen a).signature p)) ≡ passes (variable_at p) o
+            → passes (λ y. variable_letter (letter_of y)) (onward (option_map (λ (r : Rule). word (left_side r)) o) (letter_in (seen a).signature p)) ≡ passes (variable_at p) o
         go None h = refl
         go (Some r) h = variable_part (seen a).signature (left_side r) p (fits_at r h)
 
@@ -221,37 +211,14 @@ draft_cells a (i ∷ p) r m n e = go (part_of r.left i p) refl e
     go None f g = zero_one (cc)
     go (Some t) f g = not_cell t n (part_of_has Pattern Patterns under_constructor (λ k ts h. absurd h) (λ u ts h. h.0) (λ u ts h. h.1) r.left i p t ((book_rules a).patterns r m) f) g
 
--- the letter that the code reads where the part at a position begins
-item_nth : (xs : List ℕ) (i : ℕ) (r : Option (Bor ℕ)) → IsGetResult xs i i r → ReadOf (λ (x : Bor ℕ). x.now) r ≡ slice_get xs i
-item_nth xs i None h = sym (slice_get_past xs i h.3)
-item_nth xs i (Some x) h = sym (slice_get_read xs (length xs) i x.now refl h.3.0 h.1)
+-- going through the open positions
+pub variables_listed : (R : List Rule) (i : ℕ) → i < length R → (ps : List Path) → list_all (λ path. passes (variable_at (steps_of path)) (slice_get R i)) ps ≡ passes (all_variables (map steps_of ps)) (slice_get R i)
+variables_listed R i h ps = let r = nth_there R i h in go r.0 (slice_get R i) r.1 ps
+  where
+    go : (r : Rule) (o : Option Rule) → o ≡ Some r → (qs : List Path) → list_all (λ path. passes (variable_at (steps_of path)) o) qs ≡ passes (all_variables (map steps_of qs)) o
+    go r None e qs = absurd (zero_one (cc))
+    go r (Some q) e [] = refl
+    go r (Some q) e (x ∷ qs) = ap (λ (b : Bool). variable_at (steps_of x) q && b) (go r (Some q) e qs)
 
-pub letter_read : (S : Signature) (p p' w : List ℕ) (q : Part) (r : Option (Bor ℕ)) → p' ≡ p → Some q ≡ part_at S p' w → IsGetResult w q.start q.start r → ReadOf (λ (x : Bor ℕ). x.now) r ≡ letter_in S p w
-letter_read S p p' w q r s e h =
-    item_nth w q.start r h
-    ∙ ap (λ (o : Option Part). onward o (λ k. slice_get w k.start)) e
-    ∙ ap (λ (o : List ℕ). letter_in S o w) s
-
--- going through the open positions, one of which is p
-module _ (q : Option Rule) (ps : List (List ℕ)) (i : ℕ) where
-  pub variables_more : (p : List ℕ) (b : Bool) → i < length ps → p ≡ get_or ps i [] → b ≡ passes (variable_at p) q → passes (all_variables (drop i ps)) q ≡ (b && passes (all_variables (drop (i + 1) ps)) q)
-  variables_more p b h e f =
-      at_drop_more (λ (os : List (List ℕ)). passes (all_variables os) q) ps i [] h
-      ∙ ap (λ (o : List ℕ). passes (all_variables (o ∷ drop (i + 1) ps)) q) (sym e)
-      ∙ go q
-      ∙ ap (λ (t : Bool). t && passes (all_variables (drop (i + 1) ps)) q) (sym f)
-    where
-      go : (o : Option Rule) → passes (all_variables (p ∷ drop (i + 1) ps)) o ≡ (passes (variable_at p) o && passes (all_variables (drop (i + 1) ps)) o)
-      go None = refl
-      go (Some r) = refl
-
-  pub variables_all : length ps ≤ i → passes (all_variables (drop i ps)) q ≡ is_there q
-  variables_all h = at_drop_all (λ (os : List (List ℕ)). passes (all_variables os) q) ps i h ∙ go q
-    where
-      go : (o : Option Rule) → passes (all_variables []) o ≡ is_there o
-      go None = refl
-      go (Some r) = refl
-
--- a place has a rule where it is below their number
-pub rule_there : (a : Store) (i : ℕ) → is_there (slice_get (book_of (seen a)).rules i) ≡ ltb i (length (seen a).rules)
-rule_there a i = nth_is (book_of (seen a)).rules i ∙ ap (ltb i) (rule_count_is a)
+pub variables_past : (R : List Rule) (i : ℕ) (ps : List (List ℕ)) → length R ≤ i → false ≡ passes (all_variables ps) (slice_get R i)
+variables_past R i ps h = ap (passes (all_variables ps)) (sym (slice_get_past R i h))

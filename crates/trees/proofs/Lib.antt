@@ -1,6 +1,7 @@
 pub mod Places
 pub mod Opens
 pub mod LeftSides
+pub mod Chains
 pub mod Chosen
 pub mod Scanned
 pub mod Drafted

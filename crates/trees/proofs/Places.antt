@@ -1,8 +1,7 @@
 -- Places in lists.
-use Rattle.std.proofs.Common.{◌≡◌, ℕ, zero, suc, ◌<◌, ◌≤◌, List, [], ◌∷◌, ◌++◌, map, length, get_or, take, set, Some, None, refl, arith}
+use Rattle.std.proofs.Common.{◌≡◌, ℕ, zero, suc, ◌<◌, ◌≤◌, List, [], ◌∷◌, ◌++◌, map, length, set, Some, None, refl, arith, option_map}
 use mathlib.Core.List.{Memᴰ}
 use Rattle.std.specs.List.{slice_get}
-use Rattle.terms.specs.Options.{mapped}
 use Rattle.terms.proofs.Letters.{zero_one}
 
 -- a place is below the length exactly where something is
@@ -36,13 +35,7 @@ pub nth_last : {A : Type 0} (xs : List A) (x : A) → slice_get (xs ++ (x ∷ []
 nth_last [] x = refl
 nth_last (y ∷ xs) x = nth_last xs x
 
-pub nth_taken : {A : Type 0} (xs : List A) (n i : ℕ) (d : A) → i < n → n ≤ length xs → slice_get (take n xs) i ≡ Some (get_or xs i d)
-nth_taken [] n i d h l = absurd (omega arith)
-nth_taken (x ∷ xs) zero i d h l = absurd (omega arith)
-nth_taken (x ∷ xs) (suc n) zero d h l = refl
-nth_taken (x ∷ xs) (suc n) (suc i) d h l = nth_taken xs n i d (omega arith) (omega arith)
-
-pub nth_map : {A B : Type 0} (f : A → B) (xs : List A) (i : ℕ) → slice_get (map f xs) i ≡ mapped f (slice_get xs i)
+pub nth_map : {A B : Type 0} (f : A → B) (xs : List A) (i : ℕ) → slice_get (map f xs) i ≡ option_map f (slice_get xs i)
 nth_map f [] i = refl
 nth_map f (x ∷ xs) zero = refl
 nth_map f (x ∷ xs) (suc i) = nth_map f xs i

@@ -1,18 +1,19 @@
 -- The trees of a draft's functions, one after the other.
-use Rattle.std.proofs.Common.{◌≡◌, ℕ, zero, suc, ◌+◌, ◌^◌, ◌<◌, ◌≤◌, Bool, true, false, ◌⊎◌, List, [], ◌∷◌, ◌++◌, length, drop, set, Some, None, Ok, Err, Option, Result, sym, refl, ap, ◌∙◌, subst, ap₂, inl, inr, append_assoc, arith}
+use Rattle.std.proofs.Common.{◌≡◌, ℕ, zero, suc, ◌+◌, ◌<◌, ◌≤◌, Bool, true, false, ◌⊎◌, List, [], ◌∷◌, ◌++◌, length, drop, set, Some, None, Ok, Err, Option, Result, sym, refl, ap, ◌∙◌, subst, ap₂, inl, inr, append_assoc, arith, option_map}
 use Rattle.std.specs.List.{slice_get}
-use Rattle.std.proofs.lemmas.List.{length-take-le, drop_all}
+use Rattle.std.proofs.lemmas.List.{length-append, drop_all}
 use Rattle.std.proofs.lemmas.Bool.{cases_lt}
+use Rattle.std.specs.Option.{option_or}
 use Rattle.terms.specs.declared.signature.Role.{Role}
 use Rattle.terms.specs.declared.signature.Role.TheVariants.{Constructor, Function, Operation}
 use Rattle.terms.specs.Terms.{symbol, own}
-use Rattle.terms.specs.Options.{onward, mapped}
+use Rattle.terms.specs.Options.{onward}
 use Rattle.terms.specs.Signatures.{Declaration, Signature, built_in}
-use Rattle.terms.specs.Roots.{is_constructor, role_of, head_args, fn_of, call, Stands}
+use Rattle.terms.specs.Roots.{is_constructor, head_args, fn_of, call, Stands}
 use Rattle.terms.proofs.Letters.{zero_one}
 use Rattle.rewriting.specs.Rules.{Rule, Book, rules_of}
 use Rattle.rewriting.specs.Trees.{Node as Tree}
-use Rattle.rewriting.specs.FixedTree.{or_else, fixed_tree}
+use Rattle.rewriting.specs.FixedTree.{fixed_tree}
 use Rattle.rewriting.specs.Growing.{below, open_call, grow, at_call}
 use Rattle.rewriting.specs.Completeness.{is_complete}
 use Rattle.rewriting.proofs.Growing.{grows_fixed_tree}
@@ -33,11 +34,7 @@ use Rattle.trees.specs.Growth.{nodes_of, AtStage, cost, Added}
 use Rattle.trees.specs.Standing.{nodes_in, roots_in, IsFunction, Rooted, owed, TreeAdded}
 use Rattle.trees.proofs.Places.{nth_below, nth_front, nth_last, nth_set_same, nth_set_before}
 use Rattle.trees.proofs.Drafted.{draft_short, draft_ruled, owed_split}
-use Rattle.trees.proofs.Scanned.{role_symbol}
 use Rattle.trees.proofs.Growths.{is_still, is_before}
-
-pub length_nodes : (a : Store) → length (nodes_of a) ≡ a.count
-length_nodes a = let l = a.long in let f = a.fits in length-take-le a.count a.nodes (omega arith)
 
 -- a tree stays where nodes are added and its root's place is kept
 rooted_still : (B : Book) (a b : Trees) (f : ℕ) (more : List Node) → nodes_in b ≡ nodes_in a ++ more → slice_get (roots_in b) f ≡ slice_get (roots_in a) f → Rooted B a f → Rooted B b f
@@ -57,22 +54,26 @@ rooted_still B a b f more e r h = record {
 pub call_open : {S G : Signature} {k : ℕ} {ps : List (List ℕ)} (f : ℕ) → ps ≡ below [] 1 k → k ≡ length (head_args G (symbol f)) → G ≡ S → ps ≡ open_call S f
 call_open f e l g = e ∙ ap (below [] 1) (l ∙ ap (λ (x : Signature). length (head_args x (symbol f))) g)
 
--- the tree of a function of a draft is grown from its call
-module _ (d : Draft) (f : ℕ) (whole : awaited (seen d) ≡ None) (h : IsFunction (seen d).signature f) (ps : List (List ℕ)) (ms : List Bool)
-    (e : ps ≡ open_call (seen d).signature f) (m : chosen ms (book_of (seen d)).rules ≡ rules_of (book_of (seen d)) f) where
-  abbrev B : Book
-  B = book_of (seen d)
+-- the tree of a function f of a draft is grown from its call, with the open positions ps and the rules ms
+pub record Called (d : Draft) (f : ℕ) (ps : List (List ℕ)) (ms : List Bool) : Type 0 where
+  pub stage : AtStage (book_of (seen d)) longest_side ps (chosen ms (book_of (seen d)).rules)
+  pub tree : grow (seen d).signature longest_side ps (chosen ms (book_of (seen d)).rules) ≡ fixed_tree (book_of (seen d)) f
+  pub room : cost longest_side (chosen ms (book_of (seen d)).rules) + owed (book_of (seen d)) (suc f) ≡ owed (book_of (seen d)) f
 
-  pub function_stage : AtStage B longest_side ps (chosen ms B.rules)
-  function_stage =
-      let start : AtStage B longest_side (open_call B.signature f) (rules_of B f) = (f, draft_ruled d f whole h, at_call) in
-      subst (λ (qs : List (List ℕ)). AtStage B longest_side qs (chosen ms B.rules)) (sym e) (subst (AtStage B longest_side (open_call B.signature f)) (sym m) start)
+pub called : (d : Draft) (f : ℕ) (ps : List (List ℕ)) (ms : List Bool) → awaited (seen d) ≡ None → IsFunction (seen d).signature f
+    → ps ≡ open_call (seen d).signature f → chosen ms (book_of (seen d)).rules ≡ rules_of (book_of (seen d)) f → Called d f ps ms
+called d f ps ms whole h e m =
+    let B = book_of (seen d) in
+    let start : AtStage B longest_side (open_call B.signature f) (rules_of B f) = (f, draft_ruled d f whole h, at_call) in
+    record {
+      stage = subst (λ (qs : List (List ℕ)). AtStage B longest_side qs (chosen ms B.rules)) (sym e) (subst (AtStage B longest_side (open_call B.signature f)) (sym m) start);
+      tree = ap₂ (grow B.signature longest_side) e m ∙ grows_fixed_tree.same B f longest_side (draft_ruled d f whole h) (draft_short d f);
+      room = ap (λ (rs : List Rule). cost longest_side rs + owed B (suc f)) m ∙ sym (owed_split B f);
+    }
 
-  pub function_tree : grow B.signature longest_side ps (chosen ms B.rules) ≡ fixed_tree B f
-  function_tree = ap₂ (grow B.signature longest_side) e m ∙ grows_fixed_tree.same B f longest_side (draft_ruled d f whole h) (draft_short d f)
-
-  pub function_room : cost longest_side (chosen ms B.rules) + owed B (suc f) ≡ owed B f
-  function_room = ap (λ (rs : List Rule). cost longest_side rs + owed B (suc f)) m ∙ sym (owed_split B f)
+-- a function is one of at most 96 symbols
+pub function_below : (d : Draft) (f : ℕ) → IsFunction (seen d).signature f → f < 96
+function_below d f h = let k = (counted_contents d).few_symbols in let l = nth_below (seen d).signature.symbols f h.1 in omega arith
 
 -- what the tree tells
 pub no_tree : {A : Type 0} (a : A) (S : Signature) (f : ℕ) (o : Option Tree) → o ≡ None → ◌≡◌ {A = Result A CheckFault} (Err (NoTree f)) (verdict (judged S f o) a)
@@ -86,9 +87,9 @@ complete a S f o t e h = rw (e, h) refl
 
 -- a function's tree is added: its nodes, then its root
 pub function_added : (B : Book) (f : ℕ) (a b : Trees) (g : Store) (node : Node) (t : Tree) (most : ℕ) → f < length (roots_in a) → Added a.store g most → fixed_tree B f ≡ Some t
-    → Is B.rules (nodes_of g) node.kind t → node.symbol ≡ f → nodes_in b ≡ nodes_of g ++ (node ∷ []) → b.store.count ≡ g.count + 1
+    → Is B.rules (nodes_of g) node.kind t → node.symbol ≡ f → nodes_in b ≡ nodes_of g ++ (node ∷ [])
     → roots_in b ≡ set (roots_in a) f (Some (length (nodes_of g))) → most + owed B (suc f) ≡ owed B f → TreeAdded B f a b
-function_added B f a b g node t most l z e i y pushed one roots room = record {
+function_added B f a b g node t most l z e i y pushed roots room = record {
   before = λ k h r. rooted_still B a b k (z.more ++ (node ∷ []))
       (pushed ∙ ap (λ (ns : List Node). ns ++ (node ∷ [])) z.after ∙ append_assoc (nodes_in a) z.more (node ∷ []))
       (ap (λ (rs : List (Option ℕ)). slice_get rs k) roots ∙ nth_set_before (roots_in a) f k (Some (length (nodes_of g))) h) r;
@@ -103,7 +104,7 @@ function_added B f a b g node t most l z e i y pushed one roots room = record {
     fixed = e;
     is = subst (λ (ns : List Node). Is B.rules ns node.kind t) (sym pushed) (is_still (node ∷ []) i);
   };
-  within = (let p = length_nodes a.store in let q = length_nodes b.store in let w = z.fewer in omega arith);
+  within = (let one : length (nodes_in b) ≡ length (nodes_of g) + 1 = ap length pushed ∙ length-append (nodes_of g) (node ∷ []) in let w = z.fewer in omega arith);
 }
 
 -- a symbol that is no function adds nothing
@@ -111,10 +112,10 @@ pub nothing_added : (B : Book) (s : ℕ) (a : Trees) → (IsFunction B.signature
 nothing_added B s a h = record { before = λ f l r. r; here = λ f. absurd (h f); within = (let e = owed_split B s in omega arith) }
 
 -- whether a symbol is a function, and its fault
-pub function_told : (S G : Signature) (s : ℕ) (b : Bool) → s < 96 → G ≡ S → b ≡ function_role (role_of G (2 ^ 32 + s)) → function_role (mapped (λ d. d.role) (slice_get S.symbols s)) ≡ b
-function_told S G s b l g e = ap function_role (sym (role_symbol S s l)) ∙ ap (λ (x : Signature). function_role (role_of x (2 ^ 32 + s))) (sym g) ∙ sym e
+pub function_told : (S G : Signature) (s : ℕ) (b : Bool) → G ≡ S → b ≡ function_role (option_map (λ d. d.role) (slice_get G.symbols s)) → function_role (option_map (λ d. d.role) (slice_get S.symbols s)) ≡ b
+function_told S G s b g e = ap (λ (x : Signature). function_role (option_map (λ d. d.role) (slice_get x.symbols s))) (sym g) ∙ sym e
 
-pub a_function : (S : Signature) (s : ℕ) → function_role (mapped (λ d. d.role) (slice_get S.symbols s)) ≡ true → IsFunction S s
+pub a_function : (S : Signature) (s : ℕ) → function_role (option_map (λ d. d.role) (slice_get S.symbols s)) ≡ true → IsFunction S s
 a_function S s e = go (slice_get S.symbols s) refl e
   where
     role : (o : Role) → function_role (Some o) ≡ true → o ≡ Function
@@ -122,17 +123,17 @@ a_function S s e = go (slice_get S.symbols s) refl e
     role Function h = refl
     role Operation h = absurd (zero_one (cc))
 
-    go : (x : Option Declaration) → slice_get S.symbols s ≡ x → function_role (mapped (λ d. d.role) x) ≡ true → IsFunction S s
+    go : (x : Option Declaration) → slice_get S.symbols s ≡ x → function_role (option_map (λ d. d.role) x) ≡ true → IsFunction S s
     go None h f = absurd (zero_one (cc))
     go (Some d) h f = (d, h, role d.role f)
 
-pub no_function : (S : Signature) (s : ℕ) → function_role (mapped (λ d. d.role) (slice_get S.symbols s)) ≡ false → IsFunction S s → ⊥
-no_function S s e h = let a : function_role (mapped (λ d. d.role) (slice_get S.symbols s)) ≡ true = rw (h.1, h.2) refl in zero_one (cc)
+pub no_function : (S : Signature) (s : ℕ) → function_role (option_map (λ d. d.role) (slice_get S.symbols s)) ≡ false → IsFunction S s → ⊥
+no_function S s e h = let a : function_role (option_map (λ d. d.role) (slice_get S.symbols s)) ≡ true = rw (h.1, h.2) refl in zero_one (cc)
 
 pub function_fault : (B : Book) (s : ℕ) → IsFunction B.signature s → fault_at B s ≡ judged B.signature s (fixed_tree B s)
 function_fault B s h = ap (λ (y : Option Declaration). onward y (λ d. symbol_fault B s d.role)) h.1 ∙ ap (symbol_fault B s) h.2
 
-pub no_fault : (B : Book) (s : ℕ) → function_role (mapped (λ d. d.role) (slice_get B.signature.symbols s)) ≡ false → fault_at B s ≡ None
+pub no_fault : (B : Book) (s : ℕ) → function_role (option_map (λ d. d.role) (slice_get B.signature.symbols s)) ≡ false → fault_at B s ≡ None
 no_fault B s e = go (slice_get B.signature.symbols s) e
   where
     role : (o : Role) → function_role (Some o) ≡ false → symbol_fault B s o ≡ None
@@ -140,15 +141,15 @@ no_fault B s e = go (slice_get B.signature.symbols s) e
     role Function h = absurd (zero_one (cc))
     role Operation h = refl
 
-    go : (x : Option Declaration) → function_role (mapped (λ d. d.role) x) ≡ false → onward x (λ d. symbol_fault B s d.role) ≡ None
+    go : (x : Option Declaration) → function_role (option_map (λ d. d.role) x) ≡ false → onward x (λ d. symbol_fault B s d.role) ≡ None
     go None h = refl
     go (Some d) h = role d.role h
 
 -- the faults from a symbol on
-pub first_more : (B : Book) (s : ℕ) → s < length B.signature.symbols → first_fault B s (drop s B.signature.symbols) ≡ or_else (fault_at B s) (first_fault B (suc s) (drop (suc s) B.signature.symbols))
+pub first_more : (B : Book) (s : ℕ) → s < length B.signature.symbols → first_fault B s (drop s B.signature.symbols) ≡ option_or (fault_at B s) (first_fault B (suc s) (drop (suc s) B.signature.symbols))
 first_more B s h = go B.signature.symbols s h
   where
-    go : (ds : List Declaration) (k : ℕ) → k < length ds → first_fault B s (drop k ds) ≡ or_else (onward (slice_get ds k) (λ d. symbol_fault B s d.role)) (first_fault B (suc s) (drop (suc k) ds))
+    go : (ds : List Declaration) (k : ℕ) → k < length ds → first_fault B s (drop k ds) ≡ option_or (onward (slice_get ds k) (λ d. symbol_fault B s d.role)) (first_fault B (suc s) (drop (suc k) ds))
     go [] k l = absurd (omega arith)
     go (d ∷ ds) zero l = refl
     go (d ∷ ds) (suc k) l = go ds k (omega arith)
@@ -201,7 +202,7 @@ pub up_to_next : (B : Book) (s : ℕ) (a b : Trees) → s < length B.signature.s
 up_to_next B s a b l e z h =
     let i : suc s ≡ s + 1 = omega arith in
     subst (λ (x : ℕ). UpTo B x b) i (record {
-      faultless = sym (ap (λ (o : Option CheckFault). or_else o (first_fault B (suc s) (drop (suc s) B.signature.symbols))) e) ∙ sym (first_more B s l) ∙ h.faultless;
+      faultless = sym (ap (λ (o : Option CheckFault). option_or o (first_fault B (suc s) (drop (suc s) B.signature.symbols))) e) ∙ sym (first_more B s l) ∙ h.faultless;
       rooted = λ f k g. go f g (cases_lt f s) k;
       room = (let w = z.within in let r = h.room in omega arith);
     })
@@ -211,7 +212,7 @@ up_to_next B s a b l e z h =
     go f g (inr k) m = let q : s ≡ f = omega arith in subst (Rooted B b) q (z.here (subst (IsFunction B.signature) (sym q) g))
 
 pub up_to_fault : (B : Book) (s : ℕ) (t : Trees) (e : CheckFault) → s < length B.signature.symbols → fault_at B s ≡ Some e → UpTo B s t → first_fault B 0 B.signature.symbols ≡ Some e
-up_to_fault B s t e l f h = sym h.faultless ∙ first_more B s l ∙ ap (λ (o : Option CheckFault). or_else o (first_fault B (suc s) (drop (suc s) B.signature.symbols))) f
+up_to_fault B s t e l f h = sym h.faultless ∙ first_more B s l ∙ ap (λ (o : Option CheckFault). option_or o (first_fault B (suc s) (drop (suc s) B.signature.symbols))) f
 
 -- past the last symbol there is no fault
 pub first_none : (B : Book) (s : ℕ) (t : Trees) → length B.signature.symbols ≤ s → UpTo B s t → first_fault B 0 B.signature.symbols ≡ None

@@ -1,128 +1,67 @@
 -- Loops over the symbols that rules have at a position, and over the symbols of a signature.
-use Rattle.std.proofs.Common.{◌≡◌, ℕ, zero, suc, ◌+◌, ◌^◌, ◌<◌, ◌≤◌, Bool, true, false, cond, not, ◌&&◌, ◌||◌, eqb, ltb, leb, List, [], ◌∷◌, ◌++◌, map, length, get_or, take, drop, set, Some, None, Option, unwrap_or, sym, refl, ap, ◌∙◌, inl, inr, add-one, arith}
+use Rattle.std.proofs.Common.{◌≡◌, ℕ, zero, suc, ◌+◌, ◌<◌, Bool, true, false, cond, not, ◌&&◌, ◌||◌, eqb, List, [], ◌∷◌, ◌++◌, map, length, get_or, drop, Some, None, Option, sym, refl, ap, ◌∙◌, inl, inr, add-one, ap₂, arith, option_map}
 use mathlib.Core.Bool.{or_assoc}
-use Rattle.std.specs.List.{slice_get}
+use Rattle.std.specs.List.{slice_get, list_any, list_all, range_with_len}
 use Rattle.std.specs.Option.{option_eq}
-use Rattle.std.proofs.lemmas.List.{at_drop_more, at_drop_all, take_more, take_more_set, map_more}
-use Rattle.std.proofs.lemmas.Option.{slice_get_past}
-use Rattle.std.proofs.lemmas.Bool.{cond-false, eq-eqb, ne_eqb, eqb-true, cases_lt, le-ltb, lt-leb, and_left, or_cases, or_parts}
+use Rattle.std.proofs.lemmas.Bool.{eqb-true, or_cases, or_parts}
 use Rattle.std.proofs.lemmas.Bool.Decides.{same_from_decides, Decides-eqb, Decides-like}
-use Rattle.terms.specs.declared.letter.Letter.{Letter}
-use Rattle.terms.specs.declared.letter.Letter.TheVariants.{Symbol}
 use Rattle.terms.specs.declared.signature.Role.{Role}
 use Rattle.terms.specs.declared.signature.Role.TheVariants.{Constructor}
 use Rattle.terms.specs.Terms.{Head, symbol}
-use Rattle.terms.specs.Options.{onward, mapped, passes}
-use Rattle.terms.specs.Letters.{letter_of}
+use Rattle.terms.specs.Options.{passes}
 use Rattle.terms.specs.Signatures.{Declaration, Signature}
-use Rattle.terms.specs.Roots.{Root, is_constructor, symbol_root, letter_root, root_of, letter_role, role_of, head_args, root_args, arity}
-use Rattle.terms.specs.Sorting.{Environment, head_sort, sort_in, root_sort, sort_of}
-use Rattle.terms.proofs.Letters.{zero_one, letter_back}
-use Rattle.terms.proofs.Roots.{number_fn}
+use Rattle.terms.specs.Roots.{is_constructor}
+use Rattle.terms.specs.Sorting.{head_sort, sort_in}
+use Rattle.terms.proofs.Letters.{zero_one}
 use Rattle.rewriting.specs.FixedTree.{same_head}
 use Rattle.rewriting.specs.Completeness.{is_among, makes, is_met as meets, all_met, covers}
-use Rattle.trees.specs.Rows.{is_head, is_met, new_head, put, new_heads, there}
+use Rattle.trees.specs.Rows.{is_head, is_met, put, new_heads, there}
 
 -- the code's comparison with a symbol is the test of a place
 pub compares : (h : Option ℕ) (s : ℕ) (r : Bool) → r ≡ option_eq eqb h (Some s) → r ≡ is_head s h
 compares None s r e = e
 compares (Some x) s r e = e ∙ same_from_decides (eqb x s) (eqb s x) (Decides-eqb x s) (Decides-like (eqb s x) sym sym (Decides-eqb s x))
 
--- an array that is written from the front is the map of another
-pub written_more : {A B : Type 0} (f : A → B) (xs : List A) (ys : List B) (i : ℕ) (d : A) (y : B) → i < length xs → i < length ys → take i ys ≡ map f (take i xs) → y ≡ f (get_or xs i d)
-    → take (i + 1) (set ys i y) ≡ map f (take (i + 1) xs)
-written_more f xs ys i d y h l e q = let a = take_more_set ys i y l in let b = map_more f xs i d h in cc
+-- a list that has at each place what a function gives there is the map of another
+pub mapped : {A B : Type 0} (f : A → B) (xs : List A) (ys : List B) (d : A) → length ys ≡ length xs → ((k : ℕ) → k < length xs → get_or ys k (f d) ≡ f (get_or xs k d)) → ys ≡ map f xs
+mapped f [] [] d l h = refl
+mapped f [] (y ∷ ys) d l h = absurd (omega arith)
+mapped f (x ∷ xs) [] d l h = absurd (omega arith)
+mapped f (x ∷ xs) (y ∷ ys) d l h =
+    let e : y ≡ f x = h 0 (omega arith) in
+    let q = mapped f xs ys d (omega arith) (λ k i. h (suc k) (omega arith)) in
+    cc
 
--- looking for a symbol among places
-module _ (s : ℕ) (hs : List (Option ℕ)) (i : ℕ) where
-  pub met_here : i < length hs → is_head s (get_or hs i None) ≡ true → is_met s (drop i hs) ≡ true
-  met_here h e = at_drop_more (is_met s) hs i None h ∙ ap (λ b. b || is_met s (drop (i + 1) hs)) e
+-- the library's test that a symbol is among places
+pub contains_met : (s : ℕ) (hs : List (Option ℕ)) → list_any (λ h. option_eq eqb h (Some s)) hs ≡ is_met s hs
+contains_met s [] = refl
+contains_met s (h ∷ hs) = let e = compares h s (option_eq eqb h (Some s)) refl in let q = contains_met s hs in cc
 
-  pub met_more : i < length hs → is_head s (get_or hs i None) ≡ false → is_met s (drop i hs) ≡ is_met s (drop (i + 1) hs)
-  met_more h e = at_drop_more (is_met s) hs i None h ∙ ap (λ b. b || is_met s (drop (i + 1) hs)) e
+-- whether the symbol of some place is of a sort
+pub any_makes : (S : Signature) (k : ℕ) (hs : List (Option ℕ)) → list_any (λ h. passes (λ s. eqb (head_sort S (symbol s)) k) h) hs ≡ makes S k (there hs)
+any_makes S k [] = refl
+any_makes S k (None ∷ hs) = any_makes S k hs
+any_makes S k (Some s ∷ hs) = ap (λ b. eqb (head_sort S (symbol s)) k || b) (any_makes S k hs)
 
-  pub met_all : length hs ≤ i → is_met s (drop i hs) ≡ false
-  met_all h = at_drop_all (is_met s) hs i h
+-- the symbols of a signature, by their numbers
+nil_cons : {A : Type 0} (x : A) (xs : List A) → [] ≡ x ∷ xs → ⊥
+nil_cons x xs e = cc
 
--- the new symbols from a place on
-pub new_heads_more : (hs : List (Option ℕ)) (i : ℕ) → i < length hs → new_heads (take i hs) (drop i hs) ≡ put (new_head (take i hs) (get_or hs i None)) (new_heads (take (i + 1) hs) (drop (i + 1) hs))
-new_heads_more hs i h =
-    at_drop_more (new_heads (take i hs)) hs i None h
-    ∙ ap (λ (u : List (Option ℕ)). put (new_head (take i hs) (get_or hs i None)) (new_heads u (drop (i + 1) hs))) (sym (take_more hs i None h))
+pub covers_listed : (S : Signature) (cs : List Head) → list_all (λ i. passes (meets S cs i) (slice_get S.symbols i)) (range_with_len 0 (length S.symbols)) ≡ covers S cs
+covers_listed S cs = go 0 S.symbols refl
+  where
+    next : (d : Declaration) (ds : List Declaration) (j : ℕ) (xs : List Declaration) → drop j xs ≡ d ∷ ds → (slice_get xs j ≡ Some d) × (drop (j + 1) xs ≡ ds)
+    next d ds zero [] f = absurd (nil_cons d ds f)
+    next d ds (suc j) [] f = absurd (nil_cons d ds f)
+    next d ds zero (x ∷ xs) f = let e : x ≡ d = cc in let g : xs ≡ ds = cc in (ap Some e, g)
+    next d ds (suc j) (x ∷ xs) f = let n = next d ds j xs f in let e : suc j + 1 ≡ suc (j + 1) = omega arith in (n.0, ap (λ (k : ℕ). drop k (x ∷ xs)) e ∙ n.1)
 
--- looking for a constructor of a sort among places
-module _ (S : Signature) (k : ℕ) (hs : List (Option ℕ)) (i : ℕ) where
-  makes_step : (s : ℕ) → i < length hs → get_or hs i None ≡ Some s → makes S k (there (drop i hs)) ≡ (eqb (head_sort S (symbol s)) k || makes S k (there (drop (i + 1) hs)))
-  makes_step s h e = at_drop_more (λ (gs : List (Option ℕ)). makes S k (there gs)) hs i None h ∙ ap (λ (g : Option ℕ). makes S k (there (g ∷ drop (i + 1) hs))) e
-
-  pub makes_here : (s : ℕ) → i < length hs → get_or hs i None ≡ Some s → head_sort S (symbol s) ≡ k → makes S k (there (drop i hs)) ≡ true
-  makes_here s h e q = makes_step s h e ∙ ap (λ b. b || makes S k (there (drop (i + 1) hs))) (eq-eqb (head_sort S (symbol s)) k q)
-
-  pub makes_more : (s : ℕ) → i < length hs → get_or hs i None ≡ Some s → (head_sort S (symbol s) ≡ k → ⊥) → makes S k (there (drop i hs)) ≡ makes S k (there (drop (i + 1) hs))
-  makes_more s h e q = makes_step s h e ∙ ap (λ b. b || makes S k (there (drop (i + 1) hs))) (ne_eqb (head_sort S (symbol s)) k q)
-
-  pub makes_none : i < length hs → get_or hs i None ≡ None → makes S k (there (drop i hs)) ≡ makes S k (there (drop (i + 1) hs))
-  makes_none h e = at_drop_more (λ (gs : List (Option ℕ)). makes S k (there gs)) hs i None h ∙ ap (λ (g : Option ℕ). makes S k (there (g ∷ drop (i + 1) hs))) e
-
-  pub makes_all : length hs ≤ i → makes S k (there (drop i hs)) ≡ false
-  makes_all h = at_drop_all (λ (gs : List (Option ℕ)). makes S k (there gs)) hs i h
-
--- going through the symbols of a signature
-module _ (S : Signature) (cs : List Head) where
-  met_step : (s i : ℕ) (ds : List Declaration) → i < length ds → all_met S cs s (drop i ds) ≡ (passes (meets S cs s) (slice_get ds i) && all_met S cs (suc s) (drop (suc i) ds))
-  met_step s i [] h = absurd (omega arith)
-  met_step s zero (d ∷ ds) h = refl
-  met_step s (suc i) (d ∷ ds) h = met_step s i ds (omega arith)
-
-  pub covers_more : (i : ℕ) (b : Bool) → i < length S.symbols → passes (meets S cs i) (slice_get S.symbols i) ≡ b
-      → all_met S cs i (drop i S.symbols) ≡ (b && all_met S cs (i + 1) (drop (i + 1) S.symbols))
-  covers_more i b h e =
-      met_step i i S.symbols h
-      ∙ ap (λ (t : Bool). t && all_met S cs (suc i) (drop (suc i) S.symbols)) e
-      ∙ ap (λ (j : ℕ). b && all_met S cs j (drop j S.symbols)) (sym (add-one i))
-
-  pub covers_all : (i : ℕ) → length S.symbols ≤ i → all_met S cs i (drop i S.symbols) ≡ true
-  covers_all i h = at_drop_all (all_met S cs i) S.symbols i h
-
--- what the signature says of a symbol's letter
-letter_none : (s : ℕ) → 96 ≤ s → s < 256 → letter_of (2 ^ 32 + s) ≡ None
-letter_none s lo hi =
-    let x : ℕ = 2 ^ 32 + s in
-    cond-false (ltb x (2 ^ 32)) _ _ (le-ltb x (2 ^ 32) (omega arith))
-    ∙ cond-false (ltb x (2 ^ 32 + 96)) _ _ (le-ltb x (2 ^ 32 + 96) (omega arith))
-    ∙ cond-false (leb (2 ^ 33) x && ltb x (2 ^ 33 + 8)) _ _ (and_left (leb (2 ^ 33) x) (ltb x (2 ^ 33 + 8)) (lt-leb (2 ^ 33) x (omega arith)))
-
-module _ (S : Signature) (s : ℕ) where
-  root_symbol : s < 256 → length S.symbols ≤ 96 → root_of S (2 ^ 32 + s) ≡ mapped (λ d. symbol_root s (is_constructor d.role)) (slice_get S.symbols s)
-  root_symbol h few = elim (cases_lt s 96) [
-    | inl lo ↦ ap (λ (o : Option Letter). onward o (letter_root S)) (letter_back (Symbol s) lo)
-    | inr hi ↦ ap (λ (o : Option Letter). onward o (letter_root S)) (letter_none s hi h) ∙ ap (mapped (λ (d : Declaration). symbol_root s (is_constructor d.role))) (sym (slice_get_past S.symbols s (omega arith)))
-  ]
-
-  root_args_symbol : (b : Bool) → root_args S (symbol_root s b) ≡ head_args S (symbol s)
-  root_args_symbol true = refl
-  root_args_symbol false = ap (λ (n : ℕ). head_args S (symbol n)) (number_fn s)
-
-  root_sort_symbol : (e : Environment) (b : Bool) → root_sort S e (symbol_root s b) ≡ Some (head_sort S (symbol s))
-  root_sort_symbol e true = refl
-  root_sort_symbol e false = ap (λ (n : ℕ). Some (head_sort S (symbol n))) (number_fn s)
-
-  pub arity_symbol : s < 256 → length S.symbols ≤ 96 → unwrap_or (arity S (2 ^ 32 + s)) 0 ≡ length (head_args S (symbol s))
-  arity_symbol h few = ap (λ (o : Option Root). unwrap_or (mapped length (mapped (root_args S) o)) 0) (root_symbol h few) ∙ go (slice_get S.symbols s) refl
-    where
-      go : (o : Option Declaration) → slice_get S.symbols s ≡ o → unwrap_or (mapped length (mapped (root_args S) (mapped (λ d. symbol_root s (is_constructor d.role)) o))) 0 ≡ length (head_args S (symbol s))
-      go None e = rw e
-      go (Some d) e = ap length (root_args_symbol (is_constructor d.role))
-
-  pub sort_symbol : (e : Environment) → s < 256 → length S.symbols ≤ 96 → unwrap_or (sort_of S e (2 ^ 32 + s)) 0 ≡ head_sort S (symbol s)
-  sort_symbol e h few = ap (λ (o : Option Root). unwrap_or (onward o (root_sort S e)) 0) (root_symbol h few) ∙ go (slice_get S.symbols s) refl
-    where
-      go : (o : Option Declaration) → slice_get S.symbols s ≡ o → unwrap_or (onward (mapped (λ d. symbol_root s (is_constructor d.role)) o) (root_sort S e)) 0 ≡ head_sort S (symbol s)
-      go None q = rw q
-      go (Some d) q = ap (λ (o : Option ℕ). unwrap_or o 0) (root_sort_symbol e (is_constructor d.role))
-
-  pub role_symbol : s < 96 → role_of S (2 ^ 32 + s) ≡ mapped (λ d. d.role) (slice_get S.symbols s)
-  role_symbol h = ap (λ (o : Option Letter). onward o (letter_role S)) (letter_back (Symbol s) h)
+    go : (s : ℕ) (ds : List Declaration) → drop s S.symbols ≡ ds → list_all (λ i. passes (meets S cs i) (slice_get S.symbols i)) (range_with_len s (length ds)) ≡ all_met S cs s ds
+    go s [] e = refl
+    go s (d ∷ ds) e =
+        let n = next d ds s S.symbols e in
+        let q = go (s + 1) ds n.1 in
+        ap₂ (λ (o : Option Declaration) (b : Bool). passes (meets S cs s) o && b) n.0 (q ∙ ap (λ (j : ℕ). all_met S cs j ds) (add-one s))
 
 -- the constructors of some places
 pub among_there : (s : ℕ) (hs : List (Option ℕ)) → is_among (symbol s) (there hs) ≡ is_met s hs
@@ -131,7 +70,7 @@ among_there s (None ∷ hs) = among_there s hs
 among_there s (Some z ∷ hs) = ap (λ b. eqb s z || b) (among_there s hs)
 
 -- a constructor of a sort that is made is covered where it is met
-pub covered_met : (S : Signature) (cs : List Head) (s : ℕ) (o : Option Declaration) → mapped (λ d. d.role) o ≡ Some Constructor → makes S (sort_in o) cs ≡ true → passes (meets S cs s) o ≡ is_among (symbol s) cs
+pub covered_met : (S : Signature) (cs : List Head) (s : ℕ) (o : Option Declaration) → option_map (λ d. d.role) o ≡ Some Constructor → makes S (sort_in o) cs ≡ true → passes (meets S cs s) o ≡ is_among (symbol s) cs
 covered_met S cs s None h m = absurd (zero_one (cc))
 covered_met S cs s (Some d) h m =
     let q : d.role ≡ Constructor = cc in

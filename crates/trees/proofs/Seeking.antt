@@ -34,10 +34,6 @@ module _ (ns : List Node) (s : ℕ) where
   seek_none zero = refl
   seek_none (suc k) = refl
 
-  pub seek_lost : (k i : ℕ) → slice_get ns i ≡ None → seek k ns (Some i) s ≡ None
-  seek_lost zero i e = refl
-  seek_lost (suc k) i e = ap (λ (o : Option Node). onward o (λ m. cond (eqb s m.symbol) (Some i) (seek k ns m.next s))) e
-
   earlier : (o : Option ℕ) (i k : ℕ) → Before o i → i ≤ k → Before o k
   earlier None i k b l = tt
   earlier (Some j) i k b l = omega arith

@@ -1,5 +1,5 @@
 -- Positions that the rules which remain share.
-use Rattle.std.proofs.Common.{◌≡◌, ℕ, zero, suc, ◌+◌, ◌<◌, ◌≤◌, Bool, true, false, cond, ◌&&◌, ◌≢◌, ◌⊎◌, List, [], ◌∷◌, length, get_or, drop, set, replicate, Some, None, Option, sym, refl, ap, ◌∙◌, subst, inl, inr, arith}
+use Rattle.std.proofs.Common.{◌≡◌, ℕ, zero, suc, ◌+◌, ◌<◌, ◌≤◌, Bool, true, false, cond, ◌&&◌, ◌≢◌, ◌⊎◌, List, [], ◌∷◌, map, length, get_or, drop, set, replicate, Some, None, Option, sym, refl, ap, ◌∙◌, subst, inl, inr, arith, is_some}
 use Rattle.std.specs.List.{slice_get}
 use Rattle.std.proofs.lemmas.List.{ext_get_or, get_or-set_same, get_or-set_other, length-set, at_drop_more, at_drop_all}
 use Rattle.std.proofs.lemmas.Bool.{cases_lt}
@@ -7,7 +7,7 @@ use Rattle.terms.specs.Terms.{Head, cell, symbol}
 use Rattle.terms.specs.Options.{onward}
 use Rattle.terms.proofs.Letters.{zero_one}
 use Rattle.rewriting.specs.Rules.{Rule}
-use Rattle.rewriting.specs.FixedTree.{constructor_at, is_there, all_have, first_shared}
+use Rattle.rewriting.specs.FixedTree.{constructor_at, all_have, first_shared}
 use Rattle.trees.specs.declared.path.Path.{Path}
 use Rattle.trees.specs.declared.shared.Shared.{Shared}
 use Rattle.trees.specs.Views.{steps_of}
@@ -37,11 +37,11 @@ head_past p (c ∷ m) (q ∷ R) zero l = absurd (omega arith)
 head_past p (c ∷ m) (q ∷ R) (suc i) l = head_past p m R i (omega arith)
 
 -- a symbol is there where a constructor is
-constructor_symbol : (o : Option Head) {s : ℕ} → onward o head_symbol ≡ Some s → is_there o ≡ true
+constructor_symbol : (o : Option Head) {s : ℕ} → onward o head_symbol ≡ Some s → is_some o ≡ true
 constructor_symbol None e = absurd (zero_one (cc))
 constructor_symbol (Some c) e = refl
 
-no_constructor : (o : Option Head) → ((n : ℕ) → o ≡ Some (cell n) → ⊥) → onward o head_symbol ≡ None → is_there o ≡ false
+no_constructor : (o : Option Head) → ((n : ℕ) → o ≡ Some (cell n) → ⊥) → onward o head_symbol ≡ None → is_some o ≡ false
 no_constructor None h e = refl
 no_constructor (Some (cell n)) h e = absurd (h n refl)
 no_constructor (Some (symbol s)) h e = absurd (zero_one (cc))
@@ -136,27 +136,27 @@ cond_none : {A : Type 0} (b : Bool) (y : A) → None ≡ cond b (Some y) None �
 cond_none true y e = absurd (zero_one (cc))
 cond_none false y e = refl
 
-module _ (ps : List (List ℕ)) (m : List Bool) (R : List Rule) (i : ℕ) (path : Path) (l : i < length ps) (at : steps_of path ≡ get_or ps i []) where
+module _ (ds : List Path) (m : List Bool) (R : List Rule) (i : ℕ) (path : Path) (l : i < length ds) (at : path ≡ get_or ds i path) where
   -- what is left of the positions, one step on
-  step : first_shared (drop i ps) (chosen m R) ≡ cond (all_have (steps_of path) (chosen m R)) (Some (steps_of path)) (first_shared (drop (i + 1) ps) (chosen m R))
-  step = at_drop_more (λ (qs : List (List ℕ)). first_shared qs (chosen m R)) ps i [] l
-      ∙ ap (λ (q : List ℕ). cond (all_have q (chosen m R)) (Some q) (first_shared (drop (i + 1) ps) (chosen m R))) (sym at)
+  step : first_shared (map steps_of (drop i ds)) (chosen m R) ≡ cond (all_have (steps_of path) (chosen m R)) (Some (steps_of path)) (first_shared (map steps_of (drop (i + 1) ds)) (chosen m R))
+  step = at_drop_more (λ (qs : List Path). first_shared (map steps_of qs) (chosen m R)) ds i path l
+      ∙ ap (λ (q : Path). cond (all_have (steps_of q) (chosen m R)) (Some (steps_of q)) (first_shared (map steps_of (drop (i + 1) ds)) (chosen m R))) (sym at)
 
-  pub shared_here : (hs : List (Option ℕ)) → first_shared (drop i ps) (chosen m R) ≡ first_shared ps (chosen m R)
-      → Some hs ≡ cond (all_have (steps_of path) (chosen m R)) (Some (heads_at (steps_of path) m R)) None → IsShared R m (first_shared ps (chosen m R)) (Some (record { path = path; heads = hs }))
+  pub shared_here : (hs : List (Option ℕ)) → first_shared (map steps_of (drop i ds)) (chosen m R) ≡ first_shared (map steps_of ds) (chosen m R)
+      → Some hs ≡ cond (all_have (steps_of path) (chosen m R)) (Some (heads_at (steps_of path) m R)) None → IsShared R m (first_shared (map steps_of ds) (chosen m R)) (Some (record { path = path; heads = hs }))
   shared_here hs e h =
       let x = cond_some (all_have (steps_of path) (chosen m R)) hs (heads_at (steps_of path) m R) h in
       let s : Shared = record { path = path; heads = hs } in
-      let q : first_shared ps (chosen m R) ≡ Some (steps_of path) = sym e ∙ step ∙ ap (λ (b : Bool). cond b (Some (steps_of path)) (first_shared (drop (i + 1) ps) (chosen m R))) x.0 in
+      let q : first_shared (map steps_of ds) (chosen m R) ≡ Some (steps_of path) = sym e ∙ step ∙ ap (λ (b : Bool). cond b (Some (steps_of path)) (first_shared (map steps_of (drop (i + 1) ds)) (chosen m R))) x.0 in
       subst (λ (o : Option (List ℕ)). IsShared R m o (Some s)) (sym q) (s, refl, refl, x.1)
 
-  pub shared_later : first_shared (drop i ps) (chosen m R) ≡ first_shared ps (chosen m R) → None ≡ cond (all_have (steps_of path) (chosen m R)) (Some (heads_at (steps_of path) m R)) None
-      → first_shared (drop (i + 1) ps) (chosen m R) ≡ first_shared ps (chosen m R)
+  pub shared_later : first_shared (map steps_of (drop i ds)) (chosen m R) ≡ first_shared (map steps_of ds) (chosen m R) → None ≡ cond (all_have (steps_of path) (chosen m R)) (Some (heads_at (steps_of path) m R)) None
+      → first_shared (map steps_of (drop (i + 1) ds)) (chosen m R) ≡ first_shared (map steps_of ds) (chosen m R)
   shared_later e h =
       let x = cond_none (all_have (steps_of path) (chosen m R)) (heads_at (steps_of path) m R) h in
-      sym (step ∙ ap (λ (b : Bool). cond b (Some (steps_of path)) (first_shared (drop (i + 1) ps) (chosen m R))) x) ∙ e
+      sym (step ∙ ap (λ (b : Bool). cond b (Some (steps_of path)) (first_shared (map steps_of (drop (i + 1) ds)) (chosen m R))) x) ∙ e
 
-pub shared_nowhere : (ps : List (List ℕ)) (m : List Bool) (R : List Rule) (i : ℕ) → length ps ≤ i → first_shared (drop i ps) (chosen m R) ≡ first_shared ps (chosen m R) → IsShared R m (first_shared ps (chosen m R)) None
-shared_nowhere ps m R i l e =
-    let q : first_shared ps (chosen m R) ≡ None = sym e ∙ at_drop_all (λ (qs : List (List ℕ)). first_shared qs (chosen m R)) ps i l in
+pub shared_nowhere : (ds : List Path) (m : List Bool) (R : List Rule) (i : ℕ) → length ds ≤ i → first_shared (map steps_of (drop i ds)) (chosen m R) ≡ first_shared (map steps_of ds) (chosen m R) → IsShared R m (first_shared (map steps_of ds) (chosen m R)) None
+shared_nowhere ds m R i l e =
+    let q : first_shared (map steps_of ds) (chosen m R) ≡ None = sym e ∙ at_drop_all (λ (qs : List Path). first_shared (map steps_of qs) (chosen m R)) ds i l in
     subst (λ (o : Option (List ℕ)). IsShared R m o None) (sym q) refl

@@ -1,11 +1,10 @@
 -- What holds wherever a tree is grown, and what its growth comes to.
-use Rattle.std.proofs.Common.{◌≡◌, ℕ, suc, ◌+◌, ◌-◌, ◌<◌, ◌≤◌, Bool, true, ◌&&◌, List, [], ◌∷◌, ◌++◌, map, length, Some, None, Option, sym, refl, ap, ◌∙◌, subst, ap₂, append_assoc, append-nil, arith}
+use Rattle.std.proofs.Common.{◌≡◌, ℕ, suc, ◌+◌, ◌-◌, ◌<◌, ◌≤◌, Bool, true, ◌&&◌, List, [], ◌∷◌, ◌++◌, map, length, Some, None, Option, sym, refl, ap, ◌∙◌, subst, ap₂, append_assoc, append-nil, arith, option_map, filter}
 use mathlib.Core.List.{Memᴰ}
 use Rattle.std.specs.List.{slice_get}
 use Rattle.terms.specs.Terms.{Head, symbol}
-use Rattle.terms.specs.Options.{mapped}
 use Rattle.terms.specs.Signatures.{Signature}
-use Rattle.rewriting.specs.Rules.{Rule, Book, kept}
+use Rattle.rewriting.specs.Rules.{Rule, Book}
 use Rattle.rewriting.specs.Trees.{Node as Tree, branch, heads}
 use Rattle.rewriting.specs.FixedTree.{has_at, first_shared, constructors_at, children}
 use Rattle.rewriting.specs.Growing.{sole_open, opened_under, grow, Reached, in_branch, paid_under, Within}
@@ -42,7 +41,7 @@ module _ (B : Book) (short : (f : ℕ) → NoLonger B f longest_side) (n : ℕ) 
       go (q ∷ qs) w k = let d = k q (Memᴰ.head refl) in omega arith
 
   -- one branch further
-  pub child_stage : (p : List ℕ) (c : Head) → first_shared ps rs ≡ Some p → Memᴰ c (constructors_at p rs) → AtStage B (n - 1) (opened_under B.signature ps p c) (kept (has_at p c) rs)
+  pub child_stage : (p : List ℕ) (c : Head) → first_shared ps rs ≡ Some p → Memᴰ c (constructors_at p rs) → AtStage B (n - 1) (opened_under B.signature ps p c) (filter (has_at p c) rs)
   child_stage p c e m =
       let k : n ≡ suc (n - 1) = (let w = fuel_left in omega arith) in
       (stage.0, stage.1, in_branch (subst (λ (x : ℕ). Reached B stage.0 longest_side x ps rs) k stage.2) e m)
@@ -60,7 +59,7 @@ pub shared_short : (B : Book) (short : (f : ℕ) → NoLonger B f longest_side) 
     → first_shared ps rs ≡ Some p → Memᴰ c (constructors_at p rs) → length p < 64
 shared_short B short n ps rs stage p c e m =
     let a = (within_stage B short n ps rs stage).near p (first_is ps rs e).0 in
-    let b = (within_stage B short (n - 1) (opened_under B.signature ps p c) (kept (has_at p c) rs) (child_stage B short n ps rs stage p c e m)).few in
+    let b = (within_stage B short (n - 1) (opened_under B.signature ps p c) (filter (has_at p c) rs) (child_stage B short n ps rs stage p c e m)).few in
     omega arith
 
 -- a rule node is the answer
@@ -81,7 +80,7 @@ module _ (B : Book) (ps : List (List ℕ)) (m : List Bool) (n : ℕ) (p : List �
   -- a child that is missing: no tree
   pub child_missing : (c : Head) → 0 < n → sole_open ps left ≡ None → first_shared ps left ≡ Some p → Memᴰ c (constructors_at p left) → under B.signature (n - 1) ps left p c ≡ None
       → grow B.signature n ps left ≡ None
-  child_missing c l e f i h = grows_branch B.signature n ps left p l e f ∙ ap (mapped (branch p)) (children_none (under B.signature (n - 1) ps left p) i h)
+  child_missing c l e f i h = grows_branch B.signature n ps left p l e f ∙ ap (option_map (branch p)) (children_none (under B.signature (n - 1) ps left p) i h)
 
   -- all children are there: a branch
   pub branch_grown : (a b : Store) (path : Path) (first : Option ℕ) (complete covered : Bool) → covered ≡ covers B.signature (constructors_at p left) → 0 < n → sole_open ps left ≡ None → first_shared ps left ≡ Some p → steps_of path ≡ p
@@ -91,7 +90,7 @@ module _ (B : Book) (ps : List (List ℕ)) (m : List Bool) (n : ℕ) (p : List �
       let S = B.signature in
       let g : Grown = record { kind = Branch path first; complete = covered && complete } in
       let all : children (under S (n - 1) ps left p) (constructors_at p left) ≡ Some h.subtrees = ap (children (under S (n - 1) ps left p)) i ∙ h.built in
-      let tree : grow S n ps left ≡ Some (branch p h.subtrees) = grows_branch S n ps left p l e f ∙ ap (mapped (branch p)) all in
+      let tree : grow S n ps left ≡ Some (branch p h.subtrees) = grows_branch S n ps left p l e f ∙ ap (option_map (branch p)) all in
       let is : Is B.rules (nodes_of b) (Branch path first) (branch p h.subtrees) = subst (λ (x : List ℕ). Is B.rules (nodes_of b) (Branch path first) (branch x h.subtrees)) q (is_branch h.linked) in
       let heads-are : heads h.subtrees ≡ constructors_at p left = children_heads S (under S (n - 1) ps left p) (constructors_at p left) h.subtrees all in
       subst (λ (o : Option Tree). IsGrown S B.rules (nodes_of b) o (Some g)) (sym tree)
@@ -103,7 +102,7 @@ module _ (B : Book) (ps : List (List ℕ)) (m : List Bool) (n : ℕ) (p : List �
   children_added i a b first complete most l h = record { more = h.more; after = h.after; fewer = (let w = h.within in omega arith) }
 
   pub child_added : (i : ℕ) (a b c : Store) (first : Option ℕ) (complete : Bool) (most due : ℕ) → suc (paid_under longest_side (n - 1) p left (constructors_at p left)) ≤ most
-      → GrownTo B ps m n p hs i a b first complete → b.count + due ≤ a.count + paid_under longest_side (n - 1) p left (constructors_at p left) → Added b c due → Added a c most
+      → GrownTo B ps m n p hs i a b first complete → length (nodes_of b) + due ≤ length (nodes_of a) + paid_under longest_side (n - 1) p left (constructors_at p left) → Added b c due → Added a c most
   child_added i a b c first complete most due l h r z = record {
     more = h.more ++ z.more;
     after = z.after ∙ ap (λ (ns : List Node). ns ++ z.more) h.after ∙ append_assoc (nodes_of a) h.more z.more;

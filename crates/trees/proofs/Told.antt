@@ -1,6 +1,7 @@
 -- What an answer tells, by cases.
-use Rattle.std.proofs.Common.{◌≡◌, ℕ, Bool, List, Some, None, Option, sym, refl, ap, ◌∙◌, subst}
+use Rattle.std.proofs.Common.{◌≡◌, ℕ, Bool, List, Some, None, Err, Option, sym, refl, ap, ◌∙◌, subst}
 use Rattle.std.specs.List.{slice_get}
+use Rattle.std.specs.Option.{ok_or}
 use Rattle.terms.specs.Signatures.{Signature}
 use Rattle.terms.proofs.Letters.{zero_one}
 use Rattle.rewriting.specs.Rules.{Rule}
@@ -48,3 +49,7 @@ grown_some S R ns (Some t) g h =
 pub grown_none : (S : Signature) (R : List Rule) (ns : List Node) (o : Option Tree) → IsGrown S R ns o None → o ≡ None
 grown_none S R ns None h = refl
 grown_none S R ns (Some t) h = let e = h.1 in absurd (zero_one (cc))
+
+pub ok_none : {A F : Type 0} (o : Option A) (e f : F) → Err f ≡ ok_or o e → (o ≡ None) × (f ≡ e)
+ok_none None e f h = (refl, cc)
+ok_none (Some y) e f h = absurd (zero_one (cc))

@@ -1,13 +1,14 @@
 -- Whether a draft is a book. Assumes nothing.
-use Rattle.std.specs.Prelude.{ℕ, suc, Bool, true, false, cond, List, [], ◌∷◌, Some, None, Option}
+use Rattle.std.specs.Prelude.{ℕ, suc, Bool, true, false, cond, List, [], ◌∷◌, Some, None, Option, option_map}
 use Rattle.std.specs.List.{slice_get}
+use Rattle.std.specs.Option.{option_or}
 use Rattle.terms.specs.declared.signature.Role.{Role}
 use Rattle.terms.specs.declared.signature.Role.TheVariants.{Constructor, Function, Operation}
-use Rattle.terms.specs.Options.{onward, mapped}
+use Rattle.terms.specs.Options.{onward}
 use Rattle.terms.specs.Signatures.{Declaration, Signature}
 use Rattle.rewriting.specs.Rules.{Book}
 use Rattle.rewriting.specs.Trees.{Node}
-use Rattle.rewriting.specs.FixedTree.{or_else, fixed_tree}
+use Rattle.rewriting.specs.FixedTree.{fixed_tree}
 use Rattle.rewriting.specs.Completeness.{is_complete}
 use Rattle.drafts.specs.Drafts.{Draft, awaited}
 use Rattle.drafts.specs.Books.{book_of}
@@ -39,8 +40,8 @@ fault_at B s = onward (slice_get B.signature.symbols s) (λ d. symbol_fault B s 
 -- the first fault of the symbols from s on
 abbrev pub first_fault : Book → ℕ → List Declaration → Option CheckFault
 first_fault B s [] = None
-first_fault B s (d ∷ ds) = or_else (symbol_fault B s d.role) (first_fault B (suc s) ds)
+first_fault B s (d ∷ ds) = option_or (symbol_fault B s d.role) (first_fault B (suc s) ds)
 
 -- 22 where a rule is awaited, and then the first function at fault
 abbrev pub check_fault : Draft → Option CheckFault
-check_fault D = or_else (mapped RulesMissing (awaited D)) (first_fault (book_of D) 0 D.signature.symbols)
+check_fault D = option_or (option_map RulesMissing (awaited D)) (first_fault (book_of D) 0 D.signature.symbols)

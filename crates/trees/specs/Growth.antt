@@ -1,5 +1,6 @@
 -- What growing a tree does with the array of nodes.
-use Rattle.std.specs.Prelude.{◌≡◌, ℕ, ◌+◌, ◌≤◌, List, ◌++◌, take, Some, None, Option}
+use Rattle.std.specs.Prelude.{◌≡◌, ℕ, ◌+◌, ◌≤◌, List, ◌++◌, length, Some, None, Option}
+use Rattle.terms.specs.Rows.{items}
 use Rattle.terms.specs.Signatures.{Signature}
 use Rattle.rewriting.specs.Rules.{Rule, Book}
 use Rattle.rewriting.specs.Trees.{Node as Tree}
@@ -14,7 +15,7 @@ use Rattle.trees.specs.Nodes.{Is}
 
 -- the nodes that stand
 abbrev pub nodes_of : Store → List Node
-nodes_of a = take a.count a.nodes
+nodes_of a = items a.nodes
 
 -- the answer is the tree, and whether it is complete; none where there is no tree
 abbrev pub IsGrown : Signature → List Rule → List Node → Option Tree → Option Grown → Type 0
@@ -33,4 +34,4 @@ cost n rs = paid longest_side n rs
 pub record Added (a b : Store) (most : ℕ) : Type 0 where
   pub more : List Node
   pub after : nodes_of b ≡ nodes_of a ++ more
-  pub fewer : b.count + 1 ≤ a.count + most
+  pub fewer : length (nodes_of b) + 1 ≤ length (nodes_of a) + most

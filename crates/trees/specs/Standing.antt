@@ -1,11 +1,11 @@
 -- What the trees of a draft are.
-use Rattle.std.specs.Prelude.{◌≡◌, ℕ, suc, ◌+◌, ◌<◌, ◌≤◌, List, length, Some, None, Ok, Err, Option, Result, nat_le}
+use Rattle.std.specs.Prelude.{◌≡◌, ℕ, suc, ◌+◌, ◌<◌, ◌≤◌, List, length, Some, None, Ok, Err, Option, Result, nat_le, filter}
 use Rattle.std.specs.List.{slice_get}
 use Rattle.terms.specs.declared.signature.Role.TheVariants.{Function}
 use Rattle.terms.specs.Terms.{own}
 use Rattle.terms.specs.Signatures.{Declaration, Signature}
 use Rattle.terms.specs.Roots.{call, Stands}
-use Rattle.rewriting.specs.Rules.{Book, kept}
+use Rattle.rewriting.specs.Rules.{Book}
 use Rattle.rewriting.specs.Trees.{Node as Tree}
 use Rattle.rewriting.specs.FixedTree.{fixed_tree}
 use Rattle.drafts.specs.Drafts.{longest_side}
@@ -48,7 +48,7 @@ AllRooted B t = (f : ℕ) → Stands B.signature (call (own f)) → Rooted B t f
 
 -- how many nodes the trees of the symbols from s on take at most
 abbrev pub owed : Book → ℕ → ℕ
-owed B s = cost longest_side (kept (λ r. nat_le s r.function) B.rules)
+owed B s = cost longest_side (filter (λ r. nat_le s r.function) B.rules)
 
 -- the tree of the symbol s was added, if it is a function: the trees before it stay, and room is left for those after it
 pub record TreeAdded (B : Book) (s : ℕ) (a b : Trees) : Type 0 where

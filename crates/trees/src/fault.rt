@@ -1,9 +1,12 @@
 // Why a draft is no book.
-ghost use Rattle.std.specs.Prelude.{◌≡◌};
-ghost use Rattle.trees.specs.Faults.{check_fault_number};
+ghost use Rattle.std.specs.Prelude.{◌≡◌, Some};
+ghost use Rattle.trees.specs.Faults.{check_fault_number, check_fault_reason, check_fault_text};
+
+use std::error::Error;
+use std::fmt;
 
 // Why a draft is not accepted, with the function at fault.
-#[derive(Clone, Copy, PartialEq, Debug)]
+#[derive(Clone, Copy, PartialEq, Eq, Debug)]
 pub enum CheckFault {
     RulesMissing(u8),
     NoTree(u8),
@@ -11,7 +14,7 @@ pub enum CheckFault {
 }
 
 impl CheckFault {
-    // The fault's number, and the function's.
+    // The fault's number, and the function's. A `From` would not say which of the two is which.
     pub fn numbered(self) -> (u8, u8)
         ensures { result ≡ check_fault_number self }
     {
@@ -22,3 +25,28 @@ impl CheckFault {
         }
     }
 }
+
+impl CheckFault {
+    // What is wrong, in words.
+    fn reason(self) -> &'static str
+        ensures { result.now ≡ check_fault_reason self }
+    {
+        match self {
+            CheckFault::RulesMissing(_) => "rules are missing",
+            CheckFault::NoTree(_) => "there is no tree",
+            CheckFault::Incomplete(_) => "the tree is not complete",
+        }
+    }
+}
+
+impl fmt::Display for CheckFault {
+    ghost output = { λ fault. Some (check_fault_text fault) };
+
+    fn fmt<W: fmt::Write>(&self, f: &mut fmt::Formatter<W>) -> fmt::Result {
+        let (number, function) = self.numbered();
+        let reason = self.reason();
+        write!(f, "{number}: {reason} (function {function})")
+    }
+}
+
+impl Error for CheckFault {}

@@ -2,7 +2,8 @@
 use crate::node::Kind;
 
 // A tree that was grown: its root, and whether every branch has a child for each constructor of its sort.
-#[derive(Clone, Copy)]
+// A flag beside the root: the root is stored below another also where its tree is not complete.
+#[derive(Clone, Copy, PartialEq, Eq)]
 pub(crate) struct Grown {
     pub(crate) kind: Kind,
     pub(crate) complete: bool,

@@ -1,6 +1,7 @@
 // The constructors that the rules which remain have at a position.
-ghost use Rattle.std.specs.Prelude.{◌≡◌, ◌<◌, length, take, if◌then◌else◌, Some, None, slice_index_or};
+ghost use Rattle.std.specs.Prelude.{◌≡◌, ◌<◌, length, take, if◌then◌else◌, Some, None, slice_index_or, ◌==◌};
 ghost use Rattle.terms.specs.Terms.{symbol as of_symbol};
+ghost use Rattle.terms.specs.Options.{passes};
 ghost use Rattle.terms.specs.Roots.{head_args};
 ghost use Rattle.terms.specs.Sorting.{head_sort};
 ghost use Rattle.terms.specs.Views.{view};
@@ -14,60 +15,42 @@ ghost use Rattle.trees.specs.Rows.{chosen, heads_at, is_met as met_in, new_head 
 ghost use Rattle.trees.specs.Sharing.{IsShared};
 
 use crate::masks::Mask;
-use crate::open::Open;
 use crate::path::Path;
 use crate::rows::symbol_at;
 use crate::shared::Shared;
+use crate::stage::Stage;
 use drafts::draft::{Draft, MOST_RULES};
-use terms::letter::Letter;
 use terms::signature::Signature;
 
 // For each place of a rule the symbol that it has at a position, if it remains.
+// No heap: a table by the number of a rule, as `Mask` is; a struct would hold this one thing.
 pub(crate) type Heads = [Option<u8>; MOST_RULES];
 
 // The symbols at a position, if every rule that remains has one there.
-fn shared_heads(signature: &Signature, draft: &Draft, path: &Path, remain: &Mask) -> Option<Heads>
-    requires { view signature.now ≡ (seen draft.now).signature }
+fn shared_heads(draft: &Draft, path: &Path, remain: &Mask) -> Option<Heads>
     ensures { result ≡ (if all_have (steps_of path.now) (chosen remain.now (book_of (seen draft.now)).rules) then Some (heads_at (steps_of path.now) remain.now (book_of (seen draft.now)).rules) else None) }
 {
     let mut heads = [None; MOST_RULES];
+    // By index: the rules of the draft, the mask and the symbols go by one number, and it stops where a symbol is missing.
     for i in 0..draft.rule_count() {
         if remain[i] {
-            heads[i] = Some(symbol_at(signature, draft, i, path)?);
+            heads[i] = Some(symbol_at(draft, i, path)?);
         }
     }
     Some(heads)
 }
 
 // The first open position at which every rule that remains has a constructor.
-pub(crate) fn first_shared(
-    signature: &Signature,
-    draft: &Draft,
-    positions: &Open,
-    remain: &Mask,
-) -> Option<Shared>
-    requires { view signature.now ≡ (seen draft.now).signature }
-    ensures { IsShared (book_of (seen draft.now)).rules remain.now (first_shared (open_of positions.now) (chosen remain.now (book_of (seen draft.now)).rules)) result }
+pub(crate) fn first_shared(draft: &Draft, stage: &Stage) -> Option<Shared>
+    ensures { IsShared (book_of (seen draft.now)).rules stage.now.remain (first_shared (open_of stage.now.positions) (chosen stage.now.remain (book_of (seen draft.now)).rules)) result }
 {
-    for i in 0..positions.len() {
-        let path = positions.path(i);
-        if let Some(heads) = shared_heads(signature, draft, &path, remain) {
-            return Some(Shared { path, heads });
+    // A `for`: what is found is made of the position and of its symbols, which a chain would have to pair.
+    for path in stage.positions.paths() {
+        if let Some(heads) = shared_heads(draft, path, &stage.remain) {
+            return Some(Shared { path: *path, heads });
         }
     }
     None
-}
-
-// Whether some place has a symbol.
-fn is_met(heads: &[Option<u8>], symbol: u8) -> bool
-    ensures { result ≡ met_in symbol heads.now }
-{
-    for head in heads {
-        if *head == Some(symbol) {
-            return true;
-        }
-    }
-    false
 }
 
 // The symbol of a place, unless an earlier place has it.
@@ -76,39 +59,41 @@ pub(crate) fn new_head(heads: &Heads, at: usize) -> Option<u8>
     ensures { result ≡ new_in (take at heads.now) (slice_index_or heads.now at None) }
 {
     let symbol = heads[at]?;
-    if is_met(&heads[0..at], symbol) {
-        None
-    } else {
-        Some(symbol)
-    }
+    (!is_met(&heads[..at], symbol)).then_some(symbol)
+}
+
+// Whether some place has a symbol.
+fn is_met(heads: &[Option<u8>], symbol: u8) -> bool
+    ensures { result ≡ met_in symbol heads.now }
+{
+    heads.contains(&Some(symbol))
 }
 
 // The number of a constructor's arguments.
+// `sort_of` below and `is_function` of the trees read likewise: they say the value where nothing is declared, once for all their callers.
 pub(crate) fn arity_of(signature: &Signature, symbol: u8) -> usize
     ensures { result ≡ length (head_args (view signature.now) (of_symbol symbol)) }
 {
-    signature
-        .arity(Letter::Symbol(symbol).number())
-        .unwrap_or(0)
+    signature.symbol_arity(symbol).unwrap_or(0)
 }
 
 // A constructor's sort.
 pub(crate) fn sort_of(signature: &Signature, symbol: u8) -> u8
     ensures { result ≡ head_sort (view signature.now) (of_symbol symbol) }
 {
-    signature.sort(Letter::Symbol(symbol).number()).unwrap_or(0)
+    signature.symbol_sort(symbol).unwrap_or(0)
 }
 
 // Whether the constructor of some place is of a sort.
 pub(crate) fn makes(signature: &Signature, heads: &Heads, sort: u8) -> bool
     ensures { result ≡ makes_sort (view signature.now) sort (there heads.now) }
 {
-    for head in heads {
-        if let Some(symbol) = *head {
-            if sort_of(signature, symbol) == sort {
-                return true;
-            }
-        }
-    }
-    false
+    heads.iter().any(|head| is_of(signature, *head, sort))
+}
+
+// Whether the constructor of a place is of a sort.
+fn is_of(signature: &Signature, head: Option<u8>, sort: u8) -> bool
+    ensures { result ≡ passes (λ s. head_sort (view signature.now) (of_symbol s) == sort) head }
+{
+    head.is_some_and(|symbol| sort_of(signature, symbol) == sort)
 }

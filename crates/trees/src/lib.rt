@@ -10,5 +10,6 @@ mod open;
 pub mod path;
 mod rows;
 mod shared;
+mod stage;
 mod store;
 pub mod trees;

@@ -1,5 +1,5 @@
 // What the left sides of a draft's rules have at a position.
-ghost use Rattle.std.specs.Prelude.{◌≡◌};
+ghost use Rattle.std.specs.Prelude.{◌≡◌, option_map};
 ghost use Rattle.std.specs.List.{slice_get};
 ghost use Rattle.terms.specs.Options.{onward, passes};
 ghost use Rattle.terms.specs.Letters.{letter_of};
@@ -18,8 +18,16 @@ use terms::letter::Letter;
 use terms::signature::{Role, Signature};
 use words::parts::part;
 
+// The letter that a rule's left side has at a position.
+// A draft and a rule by its number, here and below: left and right side are read from the draft, which stays.
+fn letter_at(draft: &Draft, rule: usize, path: &Path) -> Option<u64>
+    ensures { result ≡ onward (option_map (λ q. q.left) (slice_get (seen draft.now).rules rule)) (letter_in (seen draft.now).signature (steps_of path.now)) }
+{
+    letter_in(draft.signature(), draft.left(rule)?, path)
+}
+
 // The letter that a word has at a position.
-fn letter_at(signature: &Signature, word: &[u64], path: &Path) -> Option<u64>
+fn letter_in(signature: &Signature, word: &[u64], path: &Path) -> Option<u64>
     ensures { result ≡ letter_in (view signature.now) (steps_of path.now) word.now }
 {
     let found = part(signature, word, path.steps())?;
@@ -30,66 +38,40 @@ fn letter_at(signature: &Signature, word: &[u64], path: &Path) -> Option<u64>
 fn constructor_symbol(signature: &Signature, letter: u64) -> Option<u8>
     ensures { result ≡ constructor_symbol (view signature.now) letter }
 {
-    match Letter::of(letter)? {
-        Letter::Symbol(symbol) => match signature.role(letter)? {
-            Role::Constructor => Some(symbol),
-            Role::Function | Role::Operation => None,
-        },
+    match Letter::try_from(letter).ok()? {
+        Letter::Symbol(symbol) => (signature.role(letter)? == Role::Constructor).then_some(symbol),
         Letter::Cell(_) | Letter::Variable(_) => None,
     }
 }
 
 // The symbol of the constructor that a rule's left side has at a position.
-pub(crate) fn symbol_at(
-    signature: &Signature,
-    draft: &Draft,
-    rule: usize,
-    path: &Path,
-) -> Option<u8>
-    requires { view signature.now ≡ (seen draft.now).signature }
+pub(crate) fn symbol_at(draft: &Draft, rule: usize, path: &Path) -> Option<u8>
     ensures { result ≡ onward (slice_get (book_of (seen draft.now)).rules rule) (symbol_at (steps_of path.now)) }
 {
-    let letter = letter_at(signature, draft.left(rule)?, path)?;
-    constructor_symbol(signature, letter)
+    constructor_symbol(draft.signature(), letter_at(draft, rule, path)?)
 }
 
 // Whether a rule's left side has a variable at a position.
-fn is_variable_at(signature: &Signature, draft: &Draft, rule: usize, path: &Path) -> bool
-    requires { view signature.now ≡ (seen draft.now).signature }
+fn is_variable_at(draft: &Draft, rule: usize, path: &Path) -> bool
     ensures { result ≡ passes (variable_at (steps_of path.now)) (slice_get (book_of (seen draft.now)).rules rule) }
 {
-    let Some(left) = draft.left(rule) else {
-        return false;
-    };
-    match letter_at(signature, left, path) {
-        Some(letter) => is_variable(letter),
-        None => false,
-    }
+    letter_at(draft, rule, path).is_some_and(is_variable)
 }
 
+// Drafts ask this too, in one line of their own: a shared one would be a public function more.
 fn is_variable(letter: u64) -> bool
     ensures { result ≡ variable_letter (letter_of letter) }
 {
-    match Letter::of(letter) {
-        Some(Letter::Variable(_)) => true,
-        Some(Letter::Symbol(_) | Letter::Cell(_)) | None => false,
-    }
+    matches!(Letter::try_from(letter), Ok(Letter::Variable(_)))
 }
 
 // Whether a rule's left side has a variable at each open position.
-pub(crate) fn all_variables(
-    signature: &Signature,
-    draft: &Draft,
-    rule: usize,
-    positions: &Open,
-) -> bool
-    requires { view signature.now ≡ (seen draft.now).signature }
+pub(crate) fn all_variables(draft: &Draft, rule: usize, positions: &Open) -> bool
     ensures { result ≡ passes (all_variables (open_of positions.now)) (slice_get (book_of (seen draft.now)).rules rule) }
 {
-    for i in 0..positions.len() {
-        if !is_variable_at(signature, draft, rule, &positions.path(i)) {
-            return false;
-        }
-    }
     rule < draft.rule_count()
+        && positions
+            .paths()
+            .iter()
+            .all(|path| is_variable_at(draft, rule, path))
 }

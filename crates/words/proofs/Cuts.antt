@@ -1,9 +1,10 @@
 -- Parts of terms are parts of words.
-use Rattle.std.proofs.Common.{◌≡◌, ℕ, zero, suc, ◌+◌, ◌<◌, ◌≤◌, cond, ltb, List, [], ◌∷◌, ◌++◌, length, take, drop, Some, None, Option, sym, refl, ap, ◌∙◌, subst, ap₂, ⊎_elim, append_assoc, append-nil, add-one, arith}
+use Rattle.std.proofs.Common.{◌≡◌, ℕ, zero, suc, ◌+◌, ◌<◌, ◌≤◌, cond, ltb, List, [], ◌∷◌, ◌++◌, length, take, drop, Some, None, Option, sym, refl, ap, ◌∙◌, subst, ap₂, ⊎_elim, append_assoc, append-nil, add-one, arith, option_map}
 use Rattle.std.proofs.lemmas.List.{drop-drop, drop_at, take_at, length-append}
 use Rattle.std.proofs.lemmas.Bool.{cond-true, cond-false, lt-ltb, le-ltb, cases_lt}
+use Rattle.words.specs.declared.part.Part.{Part}
 use Rattle.terms.specs.Terms.{Term, var, con, fun, Terms, nil, ◌▸◌, count}
-use Rattle.terms.specs.Options.{onward, mapped, more, ahead, and_then}
+use Rattle.terms.specs.Options.{onward, more, ahead, and_then}
 use Rattle.terms.specs.Signatures.{Signature}
 use Rattle.terms.specs.Roots.{Root, variable, head, call, number, Stands, root_args}
 use Rattle.words.specs.Words.{word, words, Fits, AllFit}
@@ -155,12 +156,12 @@ module _ (S : Signature) where
     no_cut_in (t ▸ ts) (suc j) p f e l w = past_one t ts j p w f.0 ∙ ap (ahead (length (word t))) (no_cut_in ts j p f.1 e (omega arith) w)
 
   -- by place and length
-  pub part_from : (p w : List ℕ) (n : ℕ) (r : Option ℕ) → place S p w ≡ Some n → part_end S (drop n w) ≡ r → part_at S p w ≡ mapped (λ l. record { start = n; len = l }) r
+  pub part_from : (p w : List ℕ) (n : ℕ) (r : Option ℕ) → place S p w ≡ Some n → part_end S (drop n w) ≡ r → part_at S p w ≡ option_map (λ l. record { start = n; len = l }) r
   part_from p w n r a e =
-      ap (λ (q : Option ℕ). onward q (λ m. mapped (λ l. record { start = m; len = l }) (part_end S (drop m w)))) a ∙ ap (mapped (λ l. record { start = n; len = l })) e
+      ap (λ (q : Option ℕ). onward q (λ m. option_map (λ l. record { start = m; len = l }) (part_end S (drop m w)))) a ∙ ap (option_map (λ l. record { start = n; len = l })) e
 
   pub no_part_from : (p w : List ℕ) → place S p w ≡ None → part_at S p w ≡ None
-  no_part_from p w a = ap (λ (q : Option ℕ). onward q (λ m. mapped (λ l. record { start = m; len = l }) (part_end S (drop m w)))) a
+  no_part_from p w a = ap (λ (q : Option ℕ). onward q (λ m. option_map (λ l. record { start = m; len = l }) (part_end S (drop m w)))) a
 
   cuts : (t : Term) (p : List ℕ) (o : Option Term) → Fits S t → part t p ≡ o → Cuts t p (word t) o (part_at S p (word t))
   cuts t p None f e = no_part_from p (word t) (ap (place S p) (sym (append-nil (word t))) ∙ no_cut t p f e [])
@@ -182,3 +183,6 @@ module _ (S : Signature) where
 
   pub cuts_part : (p w : List ℕ) → CutsPart S p w (part_at S p w)
   cuts_part p w t f e = subst (λ (v : List ℕ). Cuts t p v (part t p) (part_at S p v)) e (cuts t p (part t p) f refl)
+
+  pub cuts_of : (p w : List ℕ) (r : Option Part) → r ≡ part_at S p w → CutsPart S p w r
+  cuts_of p w r e = subst (CutsPart S p w) (sym e) (cuts_part p w)

@@ -1,6 +1,8 @@
 -- Where a part ends: by the finding itself, by counting, and on the word of a term.
-use Rattle.std.proofs.Common.{◌≡◌, ℕ, zero, suc, ◌+◌, ◌-◌, ◌<◌, ◌≤◌, List, [], ◌∷◌, ◌++◌, length, drop, IfSome, Some, None, Option, sym, refl, ap, ◌∙◌, subst, append_assoc, append-nil, add-zero, add_assoc, suc-add, zero-add, add-one, one-add, arith}
-use Rattle.std.proofs.lemmas.List.{drop-drop, length-append}
+use Rattle.std.proofs.Common.{◌≡◌, ℕ, zero, suc, ◌+◌, ◌-◌, ◌<◌, ◌≤◌, List, [], ◌∷◌, ◌++◌, length, get_or, take, drop, Some, None, Option, sym, refl, ap, ◌∙◌, subst, append_assoc, append-nil, add-zero, add_assoc, suc-add, zero-add, add-one, one-add, arith}
+use Rattle.std.specs.List.{between}
+use Rattle.std.proofs.lemmas.Slice.{first_rest}
+use Rattle.std.proofs.lemmas.List.{drop-drop, take_rest, length-append}
 use Rattle.terms.specs.Terms.{Term, var, con, fun, Terms, nil, ◌▸◌, count}
 use Rattle.terms.specs.Options.{onward, more, ahead, and_then}
 use Rattle.terms.specs.Signatures.{Signature}
@@ -12,6 +14,13 @@ use Rattle.terms.proofs.Letters.{zero_one}
 use Rattle.terms.proofs.Roots.{arity_back, arity_root}
 use Rattle.terms.proofs.Options.{ahead_zero, ahead_ahead, more_ahead, more_some, onward_some}
 use Rattle.words.proofs.Rows.{count_rest, over_first}
+
+-- the letters from a place on, the first of them and the rest
+abbrev pub from : List ℕ → ℕ → List ℕ
+from w at = take (length w - at) (drop at w)
+
+pub front_letter : (w : List ℕ) (at : ℕ) → 0 < length (from w at) → drop at w ≡ get_or (from w at) 0 0 ∷ between 1 (length (from w at)) (from w at)
+front_letter w at h = sym (take_rest w at) ∙ first_rest (from w at) 0 h
 
 module _ (S : Signature) where
   more_then : (m x : ℕ) (w : List ℕ) (o : Option ℕ) → more (and_then o (λ n. end_of S m (drop n w))) ≡ and_then (more o) (λ n. end_of S m (drop n (x ∷ w)))
@@ -43,15 +52,12 @@ module _ (S : Signature) where
   pub stopped : (k at : ℕ) (w : List ℕ) → 0 < k → None ≡ part_end S (drop at w) → ahead at (end_of S k (drop at w)) ≡ None
   stopped k at w h e = next_part k at w None h e
 
-  pub arrived : (k at : ℕ) (w : List ℕ) → k ≡ 0 → ahead at (end_of S k (drop at w)) ≡ Some at
-  arrived k at w e = ap (λ j. ahead at (end_of S j (drop at w))) e ∙ ap Some (add-zero at)
-
   -- the part that a letter begins
   pub part_end_letter : (x k : ℕ) (w : List ℕ) → arity S x ≡ Some k → part_end S (x ∷ w) ≡ more (end_of S k w)
   part_end_letter x k w h = ap (λ (o : Option ℕ). more (onward o (λ n. end_of S (n + 0) w))) h ∙ ap (λ n. more (end_of S n w)) (add-zero k)
 
-  pub part_end_none : (x : ℕ) (w : List ℕ) → arity S x ≡ None → part_end S (x ∷ w) ≡ None
-  part_end_none x w h = ap (λ (o : Option ℕ). more (onward o (λ n. end_of S (n + 0) w))) h
+  pub part_of_letter : (at : ℕ) (w v : List ℕ) {x k : ℕ} {o : Option ℕ} → drop at w ≡ x ∷ v → Some k ≡ arity S x → o ≡ end_of S k v → more o ≡ part_end S (drop at w)
+  part_of_letter at w v {x} {k} {o} d a e = ap more e ∙ sym (part_end_letter x k v (sym a)) ∙ ap (part_end S) (sym d)
 
   -- the finding is counted right
   mutual
@@ -177,18 +183,7 @@ module _ (S : Signature) where
       go None none = refl
       go (Some n) none = absurd (none n refl)
 
-  pub end_within : (k : ℕ) (w : List ℕ) (n : ℕ) → end_of S k w ≡ Some n → n ≤ length w
-  end_within k w n h =
-      let r = terms_in_row k w n h in
-      let e = ap length r.is_front ∙ length-append (words r.row) r.after in
-      let l = r.long in
-      omega arith
-
   -- what the end of a part says, of an answer that is it
-  pub within_of : (w : List ℕ) (r : Option ℕ) → r ≡ part_end S w → IfSome r (λ n. n ≤ length w)
-  within_of w None e = tt
-  within_of w (Some n) e = end_within 1 w n (sym e)
-
   pub found_of : (w : List ℕ) (r : Option ℕ) → r ≡ part_end S w → Found S w r
   found_of w r e = subst (Found S w) (sym e) (found_by_finding w)
 

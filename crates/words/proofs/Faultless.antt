@@ -1,5 +1,6 @@
 -- A word has no fault exactly when it is the word of a closed term of some sort.
-use Rattle.std.proofs.Common.{◌≡◌, ℕ, suc, ◌≤◌, Bool, true, false, cond, ◌||◌, eqb, ltb, List, [], ◌∷◌, ◌++◌, length, Some, None, Option, sym, refl, ap, ◌∙◌, subst, ap₂, append-nil, arith}
+use Rattle.std.proofs.Common.{◌≡◌, ℕ, suc, ◌≤◌, Bool, true, false, cond, ◌||◌, eqb, ltb, List, [], ◌∷◌, ◌++◌, length, Some, None, Option, sym, refl, ap, ◌∙◌, subst, ap₂, append-nil, arith, option_map}
+use Rattle.std.specs.Option.{option_or}
 use Rattle.std.proofs.lemmas.List.{length-append, nil_from_length}
 use Rattle.std.proofs.lemmas.Bool.{ltb-false, le-ltb, ne_eqb, or_parts, or_from, cond-false}
 use Rattle.words.specs.declared.fault.WordFault.{WordFault}
@@ -11,7 +12,7 @@ use Rattle.terms.specs.Roots.{Root, head, call, number, Stands, root_args, args_
 use Rattle.words.specs.Words.{word, words, Fits, AllFit}
 use Rattle.words.specs.Ends.{part_end}
 use Rattle.terms.specs.Sorting.{Sorted, AllSorted, closed, head_sort, fn_sort}
-use Rattle.words.specs.Faults.{first_not, is_closed, past_end, not_whole, due_after, walk, wrong_place, wrong_argument, is_lawful, either, word_fault, or_else, lawful_fault}
+use Rattle.words.specs.Faults.{first_not, is_closed, past_end, not_whole, due_after, walk, wrong_place, wrong_argument, is_lawful, word_fault, lawful_fault}
 use Rattle.words.specs.Statements.{TellsWhole, ClosedWord, LawfulClosedWord, NoFaultAt}
 use Rattle.terms.proofs.Letters.{zero_one}
 use Rattle.terms.proofs.Roots.{args_back}
@@ -25,13 +26,13 @@ size_none : (b : Bool) (o : Option WordFault) → cond b (Some Length) o ≡ Non
 size_none true o h = absurd (zero_one (cc))
 size_none false o h = (refl, h)
 
-either_none : (F : ℕ → WordFault) (o : Option ℕ) (p : Option WordFault) → either F o p ≡ None → (o ≡ None) × (p ≡ None)
-either_none F (Some i) p h = absurd (zero_one (cc))
-either_none F None p h = (refl, h)
+or_none : {A : Type 0} (o p : Option A) → option_or o p ≡ None → (o ≡ None) × (p ≡ None)
+or_none (Some a) p h = absurd (zero_one (cc))
+or_none None p h = (refl, h)
 
-or_else_none : (o p : Option WordFault) → or_else o p ≡ None → (o ≡ None) × (p ≡ None)
-or_else_none (Some i) p h = absurd (zero_one (cc))
-or_else_none None p h = (refl, h)
+map_none : (F : ℕ → WordFault) (o : Option ℕ) → option_map F o ≡ None → o ≡ None
+map_none F (Some i) h = absurd (zero_one (cc))
+map_none F None h = refl
 
 past_none : (l : ℕ) (o : Option ℕ) → past_end l o ≡ None → (n : ℕ) × (o ≡ Some n) × (l ≤ n)
 past_none l None h = absurd (zero_one (cc))
@@ -58,6 +59,9 @@ module _ (S : Signature) where
 
   pub tells_whole : (w : List ℕ) → TellsWhole S w (not_whole S w)
   tells_whole w = (whole w, λ h. ap (not_whole S) (sym h.1) ∙ no_end h.0 h.2)
+
+  pub whole_of : (w : List ℕ) (r : Option ℕ) → r ≡ not_whole S w → TellsWhole S w r
+  whole_of w r e = let a = tells_whole w in ((λ h. a.0 (sym e ∙ h)), λ h. e ∙ a.1 h)
 
   -- the arguments of a root have the sorts due exactly when the walk finds no wrong one
   sorted_arguments : (r : Root) (ts : Terms) → Stands S r → count ts ≡ length (root_args S r) → AllFit S ts
@@ -113,13 +117,12 @@ module _ (S : Signature) where
   taken : (n : ℕ) (w : List ℕ) → word_fault S n w ≡ None → ClosedWord S n w
   taken n w h =
       let b = size_none (eqb (length w) 0 || ltb n (length w)) _ h in
-      let c = either_none Letter (first_not (is_closed S) w) _ b.1 in
-      let d = either_none Whole (not_whole S w) _ c.1 in
-      let g = either_none Sort (wrong_argument S w) None d.1 in
+      let c = or_none (option_map Letter (first_not (is_closed S) w)) _ b.1 in
+      let d = or_none (option_map Whole (not_whole S w)) _ c.1 in
       let s = or_parts (eqb (length w) 0) (ltb n (length w)) b.0 in
-      let t = whole w d.0 in
-      let o = (closed_word S t.0 t.2).0 (ap (first_not (is_closed S)) t.1 ∙ c.0) in
-      let k = sorted t.0 t.2 o (ap (wrong_argument S) t.1 ∙ g.0) in
+      let t = whole w (map_none Whole (not_whole S w) d.0) in
+      let o = (closed_word S t.0 t.2).0 (ap (first_not (is_closed S)) t.1 ∙ map_none Letter (first_not (is_closed S) w) c.0) in
+      let k = sorted t.0 t.2 o (ap (wrong_argument S) t.1 ∙ map_none Sort (wrong_argument S w) d.1) in
       (t.0, k.0, t.1, ltb-false n (length w) s.1, o, k.1)
 
   no_fault : (n : ℕ) (t : Term) (k : ℕ) → length (word t) ≤ n → Sorted S closed t k → word_fault S n (word t) ≡ None
@@ -127,9 +130,8 @@ module _ (S : Signature) where
       let a = sorted_fits t k h in
       let size = or_from (eqb (length (word t)) 0) (ltb n (length (word t))) (ne_eqb (length (word t)) 0 (some_letter t)) (le-ltb n (length (word t)) l) in
       cond-false (eqb (length (word t)) 0 || ltb n (length (word t))) _ _ size
-      ∙ ap₂ (λ (o : Option ℕ) (p : Option WordFault). either Letter o p) ((closed_word S t a.0).1 a.1)
-      (ap₂ (λ (o : Option ℕ) (p : Option WordFault). either Whole o p) (no_end t a.0)
-      (ap (λ (o : Option ℕ). either Sort o None) (right_arguments t k a.0 h)))
+      ∙ ap₂ (λ (o : Option ℕ) (p : Option WordFault). option_or (option_map Letter o) p) ((closed_word S t a.0).1 a.1)
+      (ap₂ (λ (o : Option ℕ) (p : Option WordFault). option_or (option_map Whole o) p) (no_end t a.0) (ap (option_map Sort) (right_arguments t k a.0 h)))
 
   pub takes : (n : ℕ) (w : List ℕ) → NoFaultAt (ClosedWord S n w) (word_fault S n w)
   takes n w = (
@@ -142,14 +144,20 @@ module _ (S : Signature) where
     where
       there : lawful_fault S lawful n w ≡ None → LawfulClosedWord S lawful n w
       there h =
-          let a = or_else_none (word_fault S n w) (either Cell (first_not (is_lawful lawful) w) None) h in
-          let f = either_none Cell (first_not (is_lawful lawful) w) None a.1 in
+          let a = or_none (word_fault S n w) (option_map Cell (first_not (is_lawful lawful) w)) h in
+          let f = map_none Cell (first_not (is_lawful lawful) w) a.1 in
           let g = taken n w a.0 in
           let i = (sorted_fits g.0 g.1 g.5).0 in
-          (g.0, g.1, g.2, g.3, g.4, g.5, (lawful_word S lawful g.0 i).0 (ap (first_not (is_lawful lawful)) g.2 ∙ f.0))
+          (g.0, g.1, g.2, g.3, g.4, g.5, (lawful_word S lawful g.0 i).0 (ap (first_not (is_lawful lawful)) g.2 ∙ f))
 
       back : LawfulClosedWord S lawful n w → lawful_fault S lawful n w ≡ None
       back g =
           let i = (sorted_fits g.0 g.1 g.5).0 in
-          ap₂ (λ (o p : Option WordFault). or_else o p) ((takes n w).1 (g.0, g.1, g.2, g.3, g.4, g.5))
-          (ap (λ (o : Option ℕ). either Cell o None) (ap (first_not (is_lawful lawful)) (sym g.2) ∙ (lawful_word S lawful g.0 i).1 g.6))
+          ap₂ (λ (o p : Option WordFault). option_or o p) ((takes n w).1 (g.0, g.1, g.2, g.3, g.4, g.5))
+          (ap (option_map Cell) (ap (first_not (is_lawful lawful)) (sym g.2) ∙ (lawful_word S lawful g.0 i).1 g.6))
+
+  pub closed_of : (n : ℕ) (w : List ℕ) (r : Option WordFault) → r ≡ word_fault S n w → NoFaultAt (ClosedWord S n w) r
+  closed_of n w r e = let a = takes n w in ((λ h. a.0 (sym e ∙ h)), λ h. e ∙ a.1 h)
+
+  pub lawful_of : (lawful : ℕ → Bool) (n : ℕ) (w : List ℕ) (r : Option WordFault) → r ≡ lawful_fault S lawful n w → NoFaultAt (LawfulClosedWord S lawful n w) r
+  lawful_of lawful n w r e = let a = takes_lawful lawful n w in ((λ h. a.0 (sym e ∙ h)), λ h. e ∙ a.1 h)

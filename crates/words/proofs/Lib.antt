@@ -4,5 +4,4 @@ pub mod Scans
 pub mod Sorts
 pub mod Faultless
 pub mod Cuts
-pub mod Places
 pub mod Examples

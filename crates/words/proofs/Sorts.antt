@@ -1,9 +1,10 @@
 -- The walk along a word with the sorts that are due: the steps of its loop, and what it says of a term.
-use Rattle.std.proofs.Common.{◌≡◌, ℕ, suc, ◌+◌, ◌<◌, ◌≤◌, Bool, true, false, cond, eqb, ◌↔◌, List, [], ◌∷◌, ◌++◌, length, get_or, drop, Some, None, Ok, Err, Option, Result, sym, refl, ap, ◌∙◌, append_assoc, append-nil, add-zero, add_assoc, zero-add, add-one, arith}
-use Rattle.std.proofs.lemmas.List.{drop_more, drop-drop, drop_all, length-append}
+use Rattle.std.proofs.Common.{◌≡◌, ℕ, suc, ◌+◌, ◌<◌, Bool, true, false, cond, eqb, ◌↔◌, List, [], ◌∷◌, ◌++◌, length, get_or, drop, Some, None, Ok, Err, Option, Result, sym, refl, ap, ◌∙◌, append_assoc, append-nil, add-zero, add_assoc, zero-add, add-one, arith, option_map}
+use Rattle.std.specs.Prelude.{ok_or}
+use Rattle.std.proofs.lemmas.List.{drop_more, drop-drop, length-append}
 use Rattle.std.proofs.lemmas.Bool.{cond-true, cond-false, both_ways, eqb-true, eq-eqb}
 use Rattle.terms.specs.Terms.{Term, var, con, fun, Terms, nil, ◌▸◌, count}
-use Rattle.terms.specs.Options.{passes, mapped, onward}
+use Rattle.terms.specs.Options.{passes, onward}
 use Rattle.terms.specs.Signatures.{Signature}
 use Rattle.terms.specs.Roots.{Root, variable, head, call, number, Stands, root_of, root_args, args_of}
 use Rattle.words.specs.Words.{word, words, Fits, AllFit}
@@ -12,6 +13,11 @@ use Rattle.words.specs.Faults.{suits, later, due_after, walk, wrong_place}
 use Rattle.words.specs.Statements.{FindsSort}
 use Rattle.terms.proofs.Letters.{zero_one}
 use Rattle.terms.proofs.Roots.{root_back, args_back}
+
+-- what is missing is refused
+pub refused_none : {A F : Type 0} (o : Option A) (f e : F) → Err e ≡ ok_or o f → (o ≡ None) × (e ≡ f)
+refused_none None f e h = (refl, cc)
+refused_none (Some a) f e h = absurd (zero_one (cc))
 
 -- n letters on
 abbrev pub past : ℕ → Result ℕ ℕ → Result ℕ ℕ
@@ -68,7 +74,7 @@ module _ (S : Signature) (e : Environment) where
   no_arguments : (x k : ℕ) → args_of S x ≡ None → suits S e x k ≡ false
   no_arguments x k h = go (root_of S x) h
     where
-      go : (o : Option Root) → mapped (root_args S) o ≡ None → passes (λ j. eqb j k) (onward o (root_sort S e)) ≡ false
+      go : (o : Option Root) → option_map (root_args S) o ≡ None → passes (λ j. eqb j k) (onward o (root_sort S e)) ≡ false
       go None g = refl
       go (Some r) g = absurd (zero_one (cc))
 
@@ -78,10 +84,6 @@ module _ (S : Signature) (e : Environment) where
 
   next_sort : (ks w : List ℕ) (i at : ℕ) → Walked ks w i at → i < length ks → walk S e ks w ≡ past at (walk S e (get_or ks i 0 ∷ drop (i + 1) ks) (drop at w))
   next_sort ks w i at h l = h ∙ ap (λ (js : List ℕ). past at (walk S e js (drop at w))) (drop_more ks i 0 l)
-
-  pub walked_out : (ks w : List ℕ) (i at : ℕ) → Walked ks w i at → i < length ks → length w ≤ at → walk S e ks w ≡ Err at
-  walked_out ks w i at h l m =
-      next_sort ks w i at h l ∙ ap (λ (v : List ℕ). past at (walk S e (get_or ks i 0 ∷ drop (i + 1) ks) v)) (drop_all at w m) ∙ ap Err (add-zero at)
 
   pub walked_wrong : (ks w : List ℕ) (i at x : ℕ) (v : List ℕ) → Walked ks w i at → i < length ks → drop at w ≡ x ∷ v → suits S e x (get_or ks i 0) ≡ false → walk S e ks w ≡ Err at
   walked_wrong ks w i at x v h l d q =
@@ -93,7 +95,7 @@ module _ (S : Signature) (e : Environment) where
   pub walked_unknown : (ks w : List ℕ) (i at x : ℕ) (v : List ℕ) → Walked ks w i at → i < length ks → drop at w ≡ x ∷ v → args_of S x ≡ None → walk S e ks w ≡ Err at
   walked_unknown ks w i at x v h l d q = walked_wrong ks w i at x v h l d (no_arguments x (get_or ks i 0) q)
 
-  over_letter : (ks w : List ℕ) (i at x : ℕ) (v js : List ℕ) (r : Result ℕ ℕ) → Walked ks w i at → i < length ks → drop at w ≡ x ∷ v → suits S e x (get_or ks i 0) ≡ true → args_of S x ≡ Some js
+  pub over_letter : (ks w : List ℕ) (i at x : ℕ) (v js : List ℕ) (r : Result ℕ ℕ) → Walked ks w i at → i < length ks → drop at w ≡ x ∷ v → suits S e x (get_or ks i 0) ≡ true → args_of S x ≡ Some js
       → r ≡ walk S e js v → walk S e ks w ≡ past at (later (follow r (λ n. walk S e (drop (i + 1) ks) (drop n v))))
   over_letter ks w i at x v js r h l d q a g =
       next_sort ks w i at h l
@@ -108,13 +110,6 @@ module _ (S : Signature) (e : Environment) where
       ∙ ap (past at) (later_past n (walk S e (drop (i + 1) ks) (drop n v)))
       ∙ past_past at (n + 1) (walk S e (drop (i + 1) ks) (drop n v))
       ∙ ap (λ (u : List ℕ). past (at + (n + 1)) (walk S e (drop (i + 1) ks) u)) (ap (λ j. drop j (x ∷ v)) (sym (add-one n)) ∙ ap (drop (n + 1)) (sym d) ∙ drop-drop (n + 1) at w)
-
-  pub walked_fault : (ks w : List ℕ) (i at x : ℕ) (v js : List ℕ) (n : ℕ) → Walked ks w i at → i < length ks → drop at w ≡ x ∷ v → suits S e x (get_or ks i 0) ≡ true → args_of S x ≡ Some js
-      → Err n ≡ walk S e js v → walk S e ks w ≡ Err (at + (n + 1))
-  walked_fault ks w i at x v js n h l d q a g = over_letter ks w i at x v js (Err n) h l d q a g
-
-  pub walked_all : (ks w : List ℕ) (i at : ℕ) → Walked ks w i at → length ks ≤ i → walk S e ks w ≡ Ok at
-  walked_all ks w i at h l = h ∙ ap (λ (js : List ℕ). past at (walk S e js (drop at w))) (drop_all i ks l) ∙ ap Ok (add-zero at)
 
   -- what a letter that suits a sort says of its root
   is_sort : (o : Option ℕ) (k : ℕ) → (passes (λ j. eqb j k) o ≡ true) ↔ (o ≡ Some k)
@@ -187,3 +182,6 @@ module _ (S : Signature) (e : Environment) where
     (λ q. (sorted_word t k [] [] f (ap (λ (v : List ℕ). wrong_place (walk S e (k ∷ []) v)) (append-nil (word t) ∙ i) ∙ ap wrong_place q)).0),
     λ h. ap (walk S e (k ∷ [])) (sym i ∙ sym (append-nil (word t))) ∙ word_walk t k [] [] f h ∙ ap Ok (add-zero (length (word t)) ∙ ap length i),
   )
+
+  pub sort_of_walk : (k : ℕ) (w : List ℕ) (r : Result ℕ ℕ) → r ≡ walk S e (k ∷ []) w → FindsSort S e k w r
+  sort_of_walk k w r v t f i = let a = finds_sort k w t f i in ((λ h. a.0 (sym v ∙ h)), λ h. v ∙ a.1 h)

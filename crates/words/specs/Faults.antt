@@ -1,5 +1,7 @@
 -- The faults of a word that is to be a term. Assumes nothing.
-use Rattle.std.specs.Prelude.{ℕ, ◌+◌, Bool, true, false, cond, ◌||◌, List, [], ◌∷◌, ◌++◌, length, Some, None, Ok, Err, Option, Result, ◌==◌, nat_eq, nat_lt}
+use Rattle.std.specs.Prelude.{ℕ, ◌+◌, Bool, true, false, cond, not, ◌||◌, List, [], ◌∷◌, ◌++◌, length, Some, None, Ok, Err, Option, Result, ◌==◌, nat_eq, nat_lt, position, option_map}
+use Rattle.std.specs.Option.{option_or}
+use Rattle.std.specs.List.{list_all}
 use Rattle.terms.specs.declared.letter.Letter.TheVariants.{Symbol, Variable, Cell as CellLetter}
 use Rattle.terms.specs.declared.letter.Letter.{Letter as AnyLetter}
 use Rattle.words.specs.declared.fault.WordFault.{WordFault}
@@ -13,8 +15,7 @@ use Rattle.terms.specs.Sorting.{Environment, closed, sort_of}
 
 -- the place of the first letter that does not pass a test
 abbrev pub first_not : (ℕ → Bool) → List ℕ → Option ℕ
-first_not p [] = None
-first_not p (x ∷ w) = cond (p x) (more (first_not p w)) (Some 0)
+first_not p w = position (λ x. not (p x)) w
 
 -- a letter of the signature: a variable, a cell or a declared symbol
 abbrev pub any_root : Root → Bool
@@ -44,14 +45,9 @@ value_root (call f) = false
 abbrev pub is_in_value : Signature → ℕ → Bool
 is_in_value S x = passes value_root (root_of S x)
 
--- whether there is no such place
-abbrev pub nowhere : Option ℕ → Bool
-nowhere None = true
-nowhere (Some i) = false
-
 -- whether a word has no other letters; on the word of a term: whether it is a value
 abbrev pub is_value : Signature → List ℕ → Bool
-is_value S w = nowhere (first_not (is_in_value S) w)
+is_value S w = list_all (is_in_value S) w
 
 -- where a word that is not one whole term ends early, or the first letter past the term: n is the end of its first part
 abbrev pub past_end : ℕ → Option ℕ → Option ℕ
@@ -103,25 +99,15 @@ lawful_letter lawful (Some (Variable v)) = true
 abbrev pub is_lawful : (ℕ → Bool) → ℕ → Bool
 is_lawful lawful x = lawful_letter lawful (letter_of x)
 
--- a fault at a place, or else what comes after it
-abbrev pub either : (ℕ → WordFault) → Option ℕ → Option WordFault → Option WordFault
-either F (Some i) o = Some (F i)
-either F None o = o
-
 -- the faults of a word that is to be a closed term of at most n letters, in their order
 abbrev pub word_fault : Signature → ℕ → List ℕ → Option WordFault
 word_fault S n w =
     cond (length w == 0 || nat_lt n (length w)) (Some Length)
-    (either Letter (first_not (is_closed S) w) (either Whole (not_whole S w) (either Sort (wrong_argument S w) None)))
-
--- a fault, or else what comes after it
-abbrev pub or_else : Option WordFault → Option WordFault → Option WordFault
-or_else (Some f) o = Some f
-or_else None o = o
+    (option_or (option_map Letter (first_not (is_closed S) w)) (option_or (option_map Whole (not_whole S w)) (option_map Sort (wrong_argument S w))))
 
 -- and after these an unlawful cell
 abbrev pub lawful_fault : Signature → (ℕ → Bool) → ℕ → List ℕ → Option WordFault
-lawful_fault S lawful n w = or_else (word_fault S n w) (either Cell (first_not (is_lawful lawful) w) None)
+lawful_fault S lawful n w = option_or (word_fault S n w) (option_map Cell (first_not (is_lawful lawful) w))
 
 -- the number of a fault, and the letter at fault
 abbrev pub numbered : WordFault → ℕ × ℕ

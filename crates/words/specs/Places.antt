@@ -1,7 +1,7 @@
 -- Where the part at a position stands in a word. Assumes nothing.
-use Rattle.std.specs.Prelude.{ℕ, zero, suc, ◌+◌, cond, List, [], ◌∷◌, ◌++◌, take, drop, Some, None, Option, nat_lt}
+use Rattle.std.specs.Prelude.{ℕ, zero, suc, ◌+◌, cond, List, [], ◌∷◌, ◌++◌, take, drop, Some, None, Option, nat_lt, option_map}
 use Rattle.words.specs.declared.part.Part.{Part}
-use Rattle.terms.specs.Options.{onward, mapped, more, and_then}
+use Rattle.terms.specs.Options.{onward, more, and_then}
 use Rattle.terms.specs.Signatures.{Signature}
 use Rattle.terms.specs.Roots.{arity}
 use Rattle.words.specs.Ends.{end_of, part_end}
@@ -19,7 +19,7 @@ place S (i ∷ p) w = and_then (argument_place S i w) (λ n. place S p (drop n w
 
 -- its place and its length
 abbrev pub part_at : Signature → List ℕ → List ℕ → Option Part
-part_at S p w = onward (place S p w) (λ n. mapped (λ l. record { start = n; len = l }) (part_end S (drop n w)))
+part_at S p w = onward (place S p w) (λ n. option_map (λ l. record { start = n; len = l }) (part_end S (drop n w)))
 
 -- the letters of a part, and the word with other letters in its place
 abbrev pub letters_of : Part → List ℕ → List ℕ

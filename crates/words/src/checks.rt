@@ -13,24 +13,17 @@ use terms::signature::{Role, Signature};
 pub fn undeclared_letter(signature: &Signature, word: &[u64]) -> Option<usize>
     ensures { result ≡ first_not (is_declared (view signature.now)) word.now }
 {
-    for (i, letter) in word.iter().enumerate() {
-        if !is_declared(signature, *letter) {
-            return Some(i);
-        }
-    }
-    None
+    word.iter()
+        .position(|letter| !is_declared(signature, *letter))
 }
 
 // The first number in a word that is a variable, no letter or an undeclared symbol.
+// A function beside `undeclared_letter`: one chain each, which no shared function makes shorter.
 fn unclosed_letter(signature: &Signature, word: &[u64]) -> Option<usize>
     ensures { result ≡ first_not (is_closed (view signature.now)) word.now }
 {
-    for (i, letter) in word.iter().enumerate() {
-        if !is_closed(signature, *letter) {
-            return Some(i);
-        }
-    }
-    None
+    word.iter()
+        .position(|letter| !is_closed(signature, *letter))
 }
 
 // Whether a word is a value: cells and constructors only.
@@ -38,12 +31,7 @@ pub fn is_value(signature: &Signature, word: &[u64]) -> bool
     ensures value { result ≡ is_value (view signature.now) word.now }
     ensures tells { TellsValue (view signature.now) word.now result }
 {
-    for letter in word {
-        if !is_in_value(signature, *letter) {
-            return false;
-        }
-    }
-    true
+    word.iter().all(|letter| is_in_value(signature, *letter))
 }
 
 // Where a word that is not one whole term ends early, or the first letter past the term.
@@ -52,6 +40,7 @@ pub fn not_whole(signature: &Signature, word: &[u64]) -> Option<usize>
     ensures tells { TellsWhole (view signature.now) word.now result }
     ensures reads { ReadsBack (view signature.now) word.now }
 {
+    // Three ways, each with its own answer: no method of Option says them in less.
     match part_end(signature, word) {
         Some(end) if end < word.len() => Some(end),
         Some(_) => None,
@@ -60,6 +49,8 @@ pub fn not_whole(signature: &Signature, word: &[u64]) -> Option<usize>
 }
 
 // Where the term of the sort due that a word begins with ends, or the first place in it that has not the sort due there.
+// Both are places in the word, so the refusal is no number for a kind. Signature and word stay apart: the word is cut, the signature not.
+#[tactic(auto, using(crate::proofs::Sorts::sort_of_walk))]
 pub fn sorts_end(
     signature: &Signature,
     variables: &[Option<u8>],
@@ -79,13 +70,11 @@ fn wrong_argument(signature: &Signature, word: &[u64]) -> Option<usize>
     let [first, rest @ ..] = word else {
         return None;
     };
-    match walk(signature, &[], rest, signature.arguments(*first)?) {
-        Ok(_) => None,
-        Err(at) => Some(at + 1),
-    }
+    let at = walk(signature, &[], rest, signature.arguments(*first)?).err()?;
+    Some(at + 1)
 }
 
-// Along a word with the sorts that are due.
+// Along a word with the sorts that are due; as in `sorts_end` both answers are places in the word.
 fn walk(
     signature: &Signature,
     variables: &[Option<u8>],
@@ -95,45 +84,35 @@ fn walk(
     ensures within { elim result [ Ok n ↦ n ≤ length word.now | Err i ↦ i ≤ length word.now ] }
     ensures value { result ≡ walk (view signature.now) (given variables.now) due.now word.now }
 {
+    // A loop: a fold's closure would call the function that holds it.
     let mut at = 0;
     for sort in due {
         let [first, rest @ ..] = &word[at..] else {
             return Err(at);
         };
-        let Some(arguments) = signature.arguments(*first) else {
-            return Err(at);
-        };
+        let arguments = signature.arguments(*first).ok_or(at)?;
         if !suits(signature, variables, *first, *sort) {
             return Err(at);
         }
-        match walk(signature, variables, rest, arguments) {
-            Ok(n) => at += n + 1,
-            Err(n) => return Err(at + (n + 1)),
-        }
+        at += walk(signature, variables, rest, arguments).map_err(|place| at + place + 1)? + 1;
     }
     Ok(at)
 }
 
 // The first fault of a word that is to be a closed term of at most so many letters.
+// An Option, and so in `lawful_word_fault`: they answer which fault there is, and their clauses say it of that answer.
 pub fn word_fault(signature: &Signature, most: usize, word: &[u64]) -> Option<WordFault>
     ensures value { result ≡ word_fault (view signature.now) most word.now }
     ensures exact { NoFaultAt (ClosedWord (view signature.now) most word.now) result }
 {
-    if word.len() == 0 || word.len() > most {
-        return Some(WordFault::Length);
-    }
-    if let Some(at) = unclosed_letter(signature, word) {
-        return Some(WordFault::Letter(at));
-    }
-    if let Some(at) = not_whole(signature, word) {
-        return Some(WordFault::Whole(at));
-    }
-    match wrong_argument(signature, word) {
-        Some(at) => Some(WordFault::Sort(at)),
-        None => None,
-    }
+    (word.is_empty() || word.len() > most)
+        .then_some(WordFault::Length)
+        .or_else(|| unclosed_letter(signature, word).map(WordFault::Letter))
+        .or_else(|| not_whole(signature, word).map(WordFault::Whole))
+        .or_else(|| wrong_argument(signature, word).map(WordFault::Sort))
 }
 
+// `is_closed`, `is_in_value` and `suits` ask other things of a letter under a signature, in a line each: a struct of both has no other use.
 fn is_declared(signature: &Signature, letter: u64) -> bool
     ensures { result ≡ is_declared (view signature.now) letter }
 {
@@ -149,21 +128,13 @@ fn is_closed(signature: &Signature, letter: u64) -> bool
 fn is_in_value(signature: &Signature, letter: u64) -> bool
     ensures { result ≡ is_in_value (view signature.now) letter }
 {
-    if let Some(Letter::Cell(_)) = Letter::of(letter) {
-        return true;
-    }
-    match signature.role(letter) {
-        Some(Role::Constructor) => true,
-        Some(Role::Function | Role::Operation) | None => false,
-    }
+    matches!(Letter::try_from(letter), Ok(Letter::Cell(_)))
+        || matches!(signature.role(letter), Some(Role::Constructor))
 }
 
 // Whether a letter has the sort due.
 fn suits(signature: &Signature, variables: &[Option<u8>], letter: u64, due: u8) -> bool
     ensures { result ≡ suits (view signature.now) (given variables.now) letter due }
 {
-    match signature.sort_under(variables, letter) {
-        Some(sort) => sort == due,
-        None => false,
-    }
+    signature.sort_under(variables, letter) == Some(due)
 }

@@ -1,9 +1,13 @@
 // The faults of words.
-ghost use Rattle.std.specs.Prelude.{◌≡◌};
+ghost use Rattle.std.specs.Prelude.{◌≡◌, Some};
 ghost use Rattle.words.specs.Faults.{numbered};
+ghost use Rattle.words.specs.Texts.{reason, fault_text};
+
+use std::error::Error;
+use std::fmt;
 
 // Why a word is no closed term, with the index of the first letter at fault.
-#[derive(Clone, Copy, PartialEq, Debug)]
+#[derive(Clone, Copy, PartialEq, Eq, Debug)]
 pub enum WordFault {
     Length,
     Letter(usize),
@@ -13,7 +17,7 @@ pub enum WordFault {
 }
 
 impl WordFault {
-    // The fault's number, and the index of the letter at fault.
+    // The fault's number, and the index of the letter at fault: both at once, which a conversion to a number would not say.
     pub fn numbered(self) -> (u8, usize)
         ensures { result ≡ numbered self }
     {
@@ -26,3 +30,30 @@ impl WordFault {
         }
     }
 }
+
+impl WordFault {
+    // What is wrong, in words.
+    fn reason(self) -> &'static str
+        ensures { result.now ≡ reason self }
+    {
+        match self {
+            WordFault::Length => "the word is empty or too long",
+            WordFault::Letter(_) => "the number is no letter of a closed term",
+            WordFault::Whole(_) => "the word is not one whole term",
+            WordFault::Sort(_) => "the letter has not the sort due there",
+            WordFault::Cell(_) => "the cell is unlawful",
+        }
+    }
+}
+
+impl fmt::Display for WordFault {
+    ghost output = { λ fault. Some (fault_text fault) };
+
+    fn fmt<W: fmt::Write>(&self, f: &mut fmt::Formatter<W>) -> fmt::Result {
+        let (number, at) = self.numbered();
+        let reason = self.reason();
+        write!(f, "{number}: {reason} (letter {at})")
+    }
+}
+
+impl Error for WordFault {}

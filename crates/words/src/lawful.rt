@@ -20,33 +20,23 @@ pub fn lawful_word_fault<K: NumberKind>(
     ensures value { result ≡ lawful_fault (view signature.now) (K.NumberKind.meaning kind.now).lawful most word.now }
     ensures exact { NoFaultAt (LawfulClosedWord (view signature.now) (K.NumberKind.meaning kind.now).lawful most word.now) result }
 {
-    if let Some(fault) = word_fault(signature, most, word) {
-        return Some(fault);
-    }
-    match unlawful_cell(kind, word) {
-        Some(at) => Some(WordFault::Cell(at)),
-        None => None,
-    }
+    word_fault(signature, most, word).or_else(|| unlawful_cell(kind, word).map(WordFault::Cell))
 }
 
-// The first cell of a word that is not lawful.
+// The first cell of a word that is not lawful: a chain as short as any that a shared function would leave.
 pub fn unlawful_cell<K: NumberKind>(kind: &K, word: &[u64]) -> Option<usize>
     ensures { result ≡ first_not (is_lawful (K.NumberKind.meaning kind.now).lawful) word.now }
 {
-    for (i, letter) in word.iter().enumerate() {
-        if !is_lawful(kind, *letter) {
-            return Some(i);
-        }
-    }
-    None
+    word.iter().position(|letter| !is_lawful(kind, *letter))
 }
 
 // Whether a letter is no cell or a lawful one.
 fn is_lawful<K: NumberKind>(kind: &K, letter: u64) -> bool
     ensures { result ≡ is_lawful (K.NumberKind.meaning kind.now).lawful letter }
 {
-    match Letter::of(letter) {
-        Some(Letter::Cell(cell)) => kind.lawful(cell),
-        Some(Letter::Symbol(_) | Letter::Variable(_)) | None => true,
+    // A match: every letter is named here, and none but cells is asked.
+    match Letter::try_from(letter) {
+        Ok(Letter::Cell(cell)) => kind.lawful(cell),
+        Ok(Letter::Symbol(_) | Letter::Variable(_)) | Err(_) => true,
     }
 }

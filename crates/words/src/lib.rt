@@ -1,4 +1,5 @@
 // Words of terms: where their parts end and stand, and what is wrong with a word that is no term.
+// Signature and word are two parameters throughout: a word is cut as it is read, and a struct would be made anew at each cut.
 #![tactic(auto)]
 
 pub mod checks;
@@ -15,22 +16,20 @@ mod tests {
     use crate::parts::{part, part_end};
     use numbers::PulseCount;
     use std::test::Fail;
+    use terms::letter::{PLUS, SYMBOLS, TRUE, VARIABLES};
     use terms::name::Name;
     use terms::signature::Signature;
 
-    const PLUS: u64 = 0x1_0000_0000;
+    // The letters of what these tests declare, and of their variable; each program names its own.
+    const ZERO: u64 = SYMBOLS + 5;
 
-    const TRUE: u64 = 0x1_0000_0003;
+    const UP: u64 = SYMBOLS + 6;
 
-    const ZERO: u64 = 0x1_0000_0005;
+    const MEET: u64 = SYMBOLS + 7;
 
-    const UP: u64 = 0x1_0000_0006;
+    const X: u64 = VARIABLES;
 
-    const MEET: u64 = 0x1_0000_0007;
-
-    const X: u64 = 0x2_0000_0000;
-
-    // The sort level with zero, up and meet.
+    // The sort level with zero, up and meet; each program and test makes its own, by the calls that it shows.
     fn levels() -> Option<Signature> {
         let mut signature = Signature::built_in();
         let level = signature.add_sort(Name::new(b"level")?)?;
@@ -47,9 +46,7 @@ mod tests {
 
     #[test]
     fn faults_name_the_first_letter(rt: HostRuntime) -> Result<(), Fail> {
-        let Some(s) = levels() else {
-            return Err(Fail::new("no signature"));
-        };
+        let s = levels().ok_or_else(|| Fail::new("no signature"))?;
         assert_eq!(rt; fault(&s, &[]), Some((31, 0)));
         assert_eq!(rt; fault(&s, &[UP, UP, UP, UP, ZERO]), Some((31, 0)));
         assert_eq!(rt; fault(&s, &[UP, UP, UP, ZERO]), None);
@@ -69,10 +66,9 @@ mod tests {
 
     #[test]
     fn parts_have_place_and_length(rt: HostRuntime) -> Result<(), Fail> {
-        let Some(s) = levels() else {
-            return Err(Fail::new("no signature"));
-        };
+        let s = levels().ok_or_else(|| Fail::new("no signature"))?;
         let word = [MEET, UP, ZERO, ZERO];
+        // By length: the words that end too early.
         for n in 0..word.len() {
             assert_eq!(rt; part_end(&s, &word[0..n]), None);
         }

@@ -1,7 +1,7 @@
 // What a rule set holds.
-ghost use Rattle.std.specs.Prelude.{◌≡◌, length};
+ghost use Rattle.std.specs.Prelude.{◌≡◌, length, option_map};
 ghost use Rattle.std.specs.List.{slice_get};
-ghost use Rattle.terms.specs.Options.{onward, mapped};
+ghost use Rattle.terms.specs.Options.{onward};
 ghost use Rattle.terms.specs.Views.{view};
 ghost use Rattle.trees.specs.Nodes.{first_child, seek, FindsChild};
 ghost use Rattle.trees.specs.Standing.{nodes_in, roots_in};
@@ -12,6 +12,7 @@ use super::RuleSet;
 use terms::signature::Signature;
 use trees::node::Node;
 
+// Calls that are handed on: the parts stay hidden, since what is promised of a rule set hangs on both together.
 impl RuleSet {
     // The sorts and symbols.
     pub fn signature(&self) -> Signature
@@ -30,14 +31,14 @@ impl RuleSet {
 
     // The left side of a rule.
     pub fn left(&self, rule: usize) -> Option<&[u64]>
-        ensures { mapped (λ p. p.now) result ≡ mapped (λ q. q.left) (slice_get (set_held self.now).rules rule) }
+        ensures { option_map (λ p. p.now) result ≡ option_map (λ q. q.left) (slice_get (set_held self.now).rules rule) }
     {
         self.draft.left(rule)
     }
 
     // The right side of a rule.
     pub fn right(&self, rule: usize) -> Option<&[u64]>
-        ensures { mapped (λ p. p.now) result ≡ mapped (λ q. q.right) (slice_get (set_held self.now).rules rule) }
+        ensures { option_map (λ p. p.now) result ≡ option_map (λ q. q.right) (slice_get (set_held self.now).rules rule) }
     {
         self.draft.right(rule)
     }

@@ -1,16 +1,20 @@
 // Declaring sorts, constructors and functions.
-ghost use Rattle.std.specs.Prelude.{◌≡◌, ◌+◌, ◌≤◌, true, not, ◌||◌, ◌∷◌, length, take, ◌==◌, nat_lt};
+ghost use Rattle.std.specs.Prelude.{None, false, ◌≡◌, ◌+◌, ◌≤◌, true, not, ◌||◌, ◌∷◌, length, take, ◌==◌, nat_lt};
 ghost use Rattle.drafts.specs.Drafts.{empty, total, most_rules};
-ghost use Rattle.std.specs.Str.{bytes_eq};
 ghost use Rattle.terms.specs.Names.{find_name};
-ghost use Rattle.drafts.specs.Contents.{names, is_found, is_taken, begins_content, begins_part, is_keyword, all_below, name_fault, sorts_fault, sort_fault, symbol_fault, constructor_fault, function_fault, declare_sort, declare_constructor, declare_function};
+ghost use Rattle.terms.specs.Signatures.{add_symbol};
+ghost use Rattle.terms.specs.Views.{declaring, view, Changed};
+ghost use Rattle.terms.specs.declared.signature.Role.TheVariants.{Operation};
+ghost use Rattle.drafts.specs.Soundness.{same_role, Addable};
+ghost use Rattle.drafts.specs.Contents.{outcome, with_symbol, names, is_found, is_taken, is_keyword, all_below, name_fault, sorts_fault, sort_fault, symbols_full, symbol_fault, constructor_fault, function_fault, declare_sort, declare_constructor, declare_function};
 ghost use Rattle.drafts.specs.Stores.{seen, Does, verdict, named};
 
-use super::{Draft, MOST_LETTERS, MOST_RULES};
+use super::{Draft, MOST_RULES};
 use crate::fault::ContentFault;
 use crate::span::Span;
 use terms::name::Name;
-use terms::signature::Signature;
+use terms::row::Row;
+use terms::signature::{MOST_ARGUMENTS, MOST_SORTS, MOST_SYMBOLS, Role, Signature};
 
 const NO_RULE: Span = Span {
     start: 0,
@@ -25,11 +29,9 @@ impl Draft {
     {
         Draft {
             signature: Signature::built_in(),
-            promised: [0; 96],
-            letters: [0; MOST_LETTERS],
-            letter_count: 0,
-            rules: [NO_RULE; MOST_RULES],
-            rule_count: 0,
+            promised: [0; MOST_SYMBOLS],
+            letters: Row::new(0),
+            rules: Row::new(NO_RULE),
         }
     }
 
@@ -38,23 +40,23 @@ impl Draft {
         ensures { Does (declare_sort (seen self.old) name.now) result self.old self.new }
     {
         let new = self.sort_verdict(name)?;
-        match self.signature.add_sort(new) {
-            Some(number) => Ok(number),
-            None => Err(ContentFault::NoNumberLeft),
-        }
+        self.signature
+            .add_sort(new)
+            .ok_or(ContentFault::NoNumberLeft)
     }
 
     fn sort_verdict(&self, name: &[u8]) -> Result<Name, ContentFault>
         ensures { named result ≡ verdict (sort_fault (seen self.now) name.now) name.now }
     {
         let new = self.new_name(name)?;
-        if self.signature.sort_count() >= 16 {
+        if self.signature.sort_count() >= MOST_SORTS {
             return Err(ContentFault::NoNumberLeft);
         }
         Ok(new)
     }
 
     // One constructor more, under the next symbol number.
+    // The parts of a declaration go on through the verdict and `add` as the caller gives them, and so in `declare_function`.
     pub fn declare_constructor(
         &mut self,
         name: &[u8],
@@ -64,19 +66,10 @@ impl Draft {
         ensures { Does (declare_constructor (seen self.old) name.now args.now sort) result self.old self.new }
     {
         let new = self.constructor_verdict(name, args, sort)?;
-        let sorts = narrowed(args);
-        match self
-            .signature
-            .add_constructor(new, &sorts[0..args.len()], sort as u8)
-        {
-            Some(number) => {
-                self.promised[number as usize] = 0;
-                Ok(number)
-            }
-            None => Err(ContentFault::NoNumberLeft),
-        }
+        self.add(new, Role::Constructor, args, sort, 0)
     }
 
+    // `function_verdict` has another test in the middle; what both share is in `new_symbol` and `symbol_left`.
     fn constructor_verdict(
         &self,
         name: &[u8],
@@ -89,9 +82,7 @@ impl Draft {
         if sort < 2 {
             return Err(ContentFault::BuiltInSort);
         }
-        if self.signature.symbol_count() >= 96 {
-            return Err(ContentFault::NoNumberLeft);
-        }
+        self.symbol_left()?;
         Ok(new)
     }
 
@@ -106,17 +97,7 @@ impl Draft {
         ensures { Does (declare_function (seen self.old) name.now args.now sort rules) result self.old self.new }
     {
         let new = self.function_verdict(name, args, sort, rules)?;
-        let sorts = narrowed(args);
-        match self
-            .signature
-            .add_function(new, &sorts[0..args.len()], sort as u8)
-        {
-            Some(number) => {
-                self.promised[number as usize] = rules as u8;
-                Ok(number)
-            }
-            None => Err(ContentFault::NoNumberLeft),
-        }
+        self.add(new, Role::Function, args, sort, rules)
     }
 
     fn function_verdict(
@@ -132,16 +113,51 @@ impl Draft {
         if !self.may_promise(rules) {
             return Err(ContentFault::WrongPromise);
         }
-        if self.signature.symbol_count() >= 96 {
+        self.symbol_left()?;
+        Ok(new)
+    }
+
+    // Whether a symbol number is left.
+    fn symbol_left(&self) -> Result<(), ContentFault>
+        ensures { result ≡ verdict (symbols_full (seen self.now)) tt }
+    {
+        if self.signature.symbol_count() >= MOST_SYMBOLS {
             return Err(ContentFault::NoNumberLeft);
         }
-        Ok(new)
+        Ok(())
+    }
+
+    // One symbol more that nothing refuses, with the number of its rules, under the next symbol number.
+    fn add(
+        &mut self,
+        name: Name,
+        role: Role,
+        args: &[u64],
+        sort: u64,
+        rules: u64,
+    ) -> Result<u8, ContentFault>
+        requires { Addable (seen self.old) (declaring role name args.now sort) rules }
+        ensures { Does (outcome None (seen self.old) (length (seen self.old).signature.symbols) (with_symbol (seen self.old) (declaring role name args.now sort) rules)) result self.old self.new }
+    {
+        // The casts lose nothing: a sort is below 16, and a promise at most 96.
+        let sorts = narrowed(args);
+        let number = add_symbol(
+            &mut self.signature,
+            name,
+            role,
+            &sorts[..args.len()],
+            sort as u8,
+        )
+        .ok_or(ContentFault::NoNumberLeft)?;
+        self.promised[usize::from(number)] = rules as u8;
+        Ok(number)
     }
 
     // Whether a function may promise so many rules: at least one, and with all that are promised not too many.
     fn may_promise(&self, rules: u64) -> bool
         ensures { result ≡ not (rules == 0 || nat_lt most_rules (total (seen self.now).promised + rules)) }
     {
+        // The cast loses nothing, here and in `is_sort`: it makes a count wider.
         0 < rules && rules <= (MOST_RULES - self.promised_rules()) as u64
     }
 
@@ -149,12 +165,10 @@ impl Draft {
     pub fn promised_rules(&self) -> usize
         ensures { result ≡ total (seen self.now).promised }
     {
-        let count = self.signature.symbol_count();
-        let mut all = 0;
-        for i in 0..count {
-            all += self.promised[i] as usize;
-        }
-        all
+        self.promises()
+            .iter()
+            .map(|rules| usize::from(*rules))
+            .sum()
     }
 
     // A name that may be added as a symbol's, with these sorts.
@@ -170,12 +184,10 @@ impl Draft {
     fn new_name(&self, name: &[u8]) -> Result<Name, ContentFault>
         ensures { named result ≡ verdict (name_fault (seen self.now) name.now) name.now }
     {
-        if self.rule_count > 0 {
+        if self.rule_count() > 0 {
             return Err(ContentFault::RuleStands);
         }
-        let Some(well_formed) = Name::new(name) else {
-            return Err(ContentFault::MalformedName);
-        };
+        let well_formed = Name::new(name).ok_or(ContentFault::MalformedName)?;
         if self.is_taken(name) {
             return Err(ContentFault::NameTaken);
         }
@@ -203,7 +215,7 @@ impl Draft {
         if !self.is_sort(sort) || !self.are_sorts(args) {
             return Err(ContentFault::UndeclaredSort);
         }
-        if args.len() > 4 {
+        if args.len() > MOST_ARGUMENTS {
             return Err(ContentFault::TooManyArguments);
         }
         Ok(())
@@ -215,15 +227,11 @@ impl Draft {
         sort < self.signature.sort_count() as u64
     }
 
+    // One `all`, as `is_value` of words and `all_follow` of names are.
     fn are_sorts(&self, sorts: &[u64]) -> bool
         ensures { result ≡ all_below (length (seen self.now).signature.sorts) sorts.now }
     {
-        for sort in sorts {
-            if !self.is_sort(*sort) {
-                return false;
-            }
-        }
-        true
+        sorts.iter().all(|sort| self.is_sort(*sort))
     }
 }
 
@@ -231,35 +239,38 @@ impl Draft {
 fn is_keyword(name: &[u8]) -> bool
     ensures { result ≡ is_keyword name.now }
 {
-    begins_content(name) || begins_part(name)
+    matches!(name, b"sort" | b"con" | b"fun" | b"rules" | b"end")
 }
 
-fn begins_content(name: &[u8]) -> bool
-    ensures { result ≡ begins_content name.now }
+// A symbol that is no operation, under the next symbol number of a signature.
+fn add_symbol(
+    signature: &mut Signature,
+    name: Name,
+    role: Role,
+    args: &[u8],
+    sort: u8,
+) -> Option<u8>
+    requires { same_role role Operation ≡ false }
+    ensures { Changed (add_symbol (declaring role name args.now sort) (view signature.old)) result signature.old signature.new }
 {
-    is_word(name, b"sort") || is_word(name, b"con") || is_word(name, b"fun")
-}
-
-fn begins_part(name: &[u8]) -> bool
-    ensures { result ≡ begins_part name.now }
-{
-    is_word(name, b"rules") || is_word(name, b"end")
-}
-
-fn is_word(name: &[u8], word: &[u8]) -> bool
-    ensures { result ≡ bytes_eq name.now word.now }
-{
-    name == word
+    // A match on the role, which is a part of the declaration and no step to run.
+    match role {
+        Role::Constructor => signature.add_constructor(name, args, sort),
+        Role::Function | Role::Operation => signature.add_function(name, args, sort),
+    }
 }
 
 // Sort numbers as bytes.
-fn narrowed(sorts: &[u64]) -> [u8; 4]
+// No heap: an array of four, of which as many count as there are sorts.
+fn narrowed(sorts: &[u64]) -> [u8; MOST_ARGUMENTS]
     requires few { length sorts.now ≤ 4 }
     requires small { all_below 16 sorts.now ≡ true }
     ensures { take (length sorts.now) result ≡ sorts.now }
 {
-    let mut bytes = [0; 4];
+    let mut bytes = [0; MOST_ARGUMENTS];
+    // Tried: past a `zip` with `iter_mut` nothing is known of what was written.
     for (i, sort) in sorts.iter().enumerate() {
+        // The cast loses nothing: sorts are below 16.
         bytes[i] = *sort as u8;
     }
     bytes

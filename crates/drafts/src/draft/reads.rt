@@ -1,7 +1,7 @@
 // What a draft holds.
-ghost use Rattle.std.specs.Prelude.{◌≡◌, ◌+◌, ◌≤◌, length, take, drop, if◌then◌else◌, nat_lt};
+ghost use Rattle.std.specs.Prelude.{◌≡◌, ◌+◌, ◌≤◌, length, take, drop, Some, option_map};
 ghost use Rattle.std.specs.List.{slice_get};
-ghost use Rattle.terms.specs.Options.{mapped};
+ghost use Rattle.terms.specs.Rows.{items};
 ghost use Rattle.terms.specs.Views.{view};
 ghost use Rattle.drafts.specs.Drafts.{functions_in, most_letters};
 ghost use Rattle.drafts.specs.Statements.{SoundContents, SoundRules};
@@ -9,6 +9,7 @@ ghost use Rattle.drafts.specs.Books.{CountedContents, BookRules};
 ghost use Rattle.drafts.specs.Stores.{seen};
 
 use super::Draft;
+use crate::span::Span;
 use terms::signature::Signature;
 
 impl Draft {
@@ -27,66 +28,61 @@ impl Draft {
         ensures sound { SoundRules (seen self.now) }
         ensures book { BookRules (seen self.now) }
     {
-        self.rule_count
+        self.rules.as_slice().len()
     }
 
     // How many functions there are.
     pub fn function_count(&self) -> usize
         ensures { result ≡ functions_in (seen self.now).promised }
     {
-        let count = self.signature.symbol_count();
-        let mut functions = 0;
-        for i in 0..count {
-            functions += one_if_some(self.promised[i]);
-        }
-        functions
+        self.promises().iter().filter(|rules| **rules > 0).count()
     }
 
     // How many rules a symbol promises; one that is no function promises none.
     pub fn promised(&self, symbol: u8) -> Option<u8>
         ensures { result ≡ slice_get (seen self.now).promised symbol }
     {
-        let at = symbol as usize;
-        if at < self.signature.symbol_count() {
-            Some(self.promised[at])
-        } else {
-            None
-        }
+        self.promises().get(usize::from(symbol)).copied()
+    }
+
+    // How many rules each symbol promises.
+    pub(super) fn promises(&self) -> &[u8]
+        ensures value { result.now ≡ (seen self.now).promised }
+        ensures few { length result.now ≤ 96 }
+    {
+        &self.promised[..self.signature.symbol_count()]
     }
 
     // The left side of a rule.
+    // `right` reads the same span further on: a line each, and a parameter for the side would be told apart again.
     pub fn left(&self, rule: usize) -> Option<&[u64]>
-        ensures { mapped (λ p. p.now) result ≡ mapped (λ q. q.left) (slice_get (seen self.now).rules rule) }
+        ensures { option_map (λ p. p.now) result ≡ option_map (λ q. q.left) (slice_get (seen self.now).rules rule) }
     {
-        if rule >= self.rule_count {
-            return None;
-        }
-        let span = self.rules[rule];
+        let span = self.span(rule)?;
         Some(self.part(span.start, span.left))
     }
 
     // The right side of a rule.
     pub fn right(&self, rule: usize) -> Option<&[u64]>
-        ensures { mapped (λ p. p.now) result ≡ mapped (λ q. q.right) (slice_get (seen self.now).rules rule) }
+        ensures { option_map (λ p. p.now) result ≡ option_map (λ q. q.right) (slice_get (seen self.now).rules rule) }
     {
-        if rule >= self.rule_count {
-            return None;
-        }
-        let span = self.rules[rule];
+        let span = self.span(rule)?;
         Some(self.part(span.start + span.left, span.right))
     }
 
-    // So many letters of the pool.
-    fn part(&self, start: usize, len: usize) -> &[u64]
-        requires { start + len ≤ most_letters }
-        ensures { result.now ≡ take len (drop start self.now.letters) }
+    // Where a rule's letters stand.
+    fn span(&self, rule: usize) -> Option<Span>
+        ensures { result ≡ slice_get (items self.now.rules) rule }
     {
-        &self.letters[start..start + len]
+        self.rules.as_slice().get(rule).copied()
     }
-}
 
-fn one_if_some(rules: u8) -> usize
-    ensures { result ≡ (if nat_lt 0 rules then 1 else 0) }
-{
-    if rules > 0 { 1 } else { 0 }
+    // So many letters of the pool.
+    // Start and length lie in the span: a range would be made of them to be taken apart.
+    fn part(&self, start: usize, len: usize) -> &[u64]
+        requires { start + len ≤ length (items self.now.letters) }
+        ensures { result.now ≡ take len (drop start (items self.now.letters)) }
+    {
+        &self.letters.as_slice()[start..start + len]
+    }
 }

@@ -1,4 +1,4 @@
--- Steps keep sorts. Assumes nothing.
+-- Steps keep sorts: the lemma gives three things at once, so it is named here and not in the attribute. Assumes nothing.
 use Rattle.rewriting.proofs.Sorts.{steps_keep_sorts}
 use Rattle.rewriting.proofs.steps_keep_sorts.Goals as goal
 

@@ -1,11 +1,12 @@
 // Opening positions.
-ghost use Rattle.std.specs.Prelude.{◌≡◌, ◌+◌, ◌<◌, ◌≤◌, [], ◌∷◌, ◌++◌, length, slice_index_or};
+ghost use Rattle.std.specs.Prelude.{◌≡◌, ◌+◌, ◌<◌, ◌≤◌, [], ◌∷◌, ◌++◌, length};
 ghost use Rattle.rewriting.specs.Growing.{below, opened as the_opened};
 ghost use Rattle.trees.specs.Views.{steps_of};
-ghost use Rattle.trees.specs.Opens.{open_of};
+ghost use Rattle.trees.specs.Opens.{open_of, paths_of};
 
-use super::{MOST_OPEN, Open};
+use super::Open;
 use crate::path::Path;
+use terms::row::Row;
 
 impl Open {
     // The open positions of a call with so many arguments.
@@ -22,8 +23,7 @@ impl Open {
         ensures { open_of result ≡ [] }
     {
         Open {
-            paths: [Path::root(); MOST_OPEN],
-            count: 0,
+            paths: Row::new(Path::root()),
         }
     }
 
@@ -31,8 +31,7 @@ impl Open {
         requires { length (open_of self.old) < 64 }
         ensures { open_of self.new ≡ open_of self.old ++ (steps_of path ∷ []) }
     {
-        self.paths[self.count] = path;
-        self.count += 1;
+        self.paths.push(path);
     }
 
     // The positions of so many arguments below a position.
@@ -42,6 +41,7 @@ impl Open {
         requires room { length (open_of self.old) + arity ≤ 64 }
         ensures { open_of self.new ≡ open_of self.old ++ below (steps_of path.now) 1 arity }
     {
+        // By number: the arguments' own numbers are the steps.
         for i in 0..arity {
             self.push(path.down(i as u8 + 1));
         }
@@ -55,29 +55,20 @@ impl Open {
         ensures { open_of result ≡ the_opened (open_of self.now) (steps_of path.now) arity }
     {
         let mut open = Open::none();
-        for i in 0..self.count {
-            let other = self.paths[i];
-            if other.is(path) {
+        for other in self.paths() {
+            if other == path {
                 open.push_below(path, arity);
             } else {
-                open.push(other);
+                open.push(*other);
             }
         }
         open
     }
 
-    // One of them.
-    pub(crate) fn path(&self, at: usize) -> Path
-        requires { at < length (open_of self.now) }
-        ensures { steps_of result ≡ slice_index_or (open_of self.now) at [] }
+    // They in a row.
+    pub(crate) fn paths(&self) -> &[Path]
+        ensures { result.now ≡ paths_of self.now }
     {
-        self.paths[at]
-    }
-
-    // How many there are.
-    pub(crate) fn len(&self) -> usize
-        ensures { result ≡ length (open_of self.now) }
-    {
-        self.count
+        self.paths.as_slice()
     }
 }

@@ -1,5 +1,5 @@
 // Whether a branch has a child for each constructor.
-ghost use Rattle.std.specs.Prelude.{◌≡◌, ◌<◌};
+ghost use Rattle.std.specs.Prelude.{◌≡◌};
 ghost use Rattle.std.specs.List.{slice_get};
 ghost use Rattle.terms.specs.Options.{passes};
 ghost use Rattle.terms.specs.Views.{view};
@@ -10,7 +10,6 @@ ghost use Rattle.trees.specs.Growth.{nodes_of};
 
 use super::Store;
 use crate::heads::{Heads, makes, sort_of};
-use terms::letter::Letter;
 use terms::signature::{Role, Signature};
 
 impl Store {
@@ -22,11 +21,10 @@ impl Store {
         children: Option<usize>,
         symbol: u8,
     ) -> bool
-        requires declared { symbol < 96 }
-        requires leads { Leads (nodes_of self.now) children heads.now }
+        requires { Leads (nodes_of self.now) children heads.now }
         ensures { result ≡ passes (meets (view signature.now) (there heads.now) symbol) (slice_get (view signature.now).symbols symbol) }
     {
-        match signature.role(Letter::Symbol(symbol).number()) {
+        match signature.symbol_role(symbol) {
             None => false,
             Some(Role::Constructor) => !makes(signature, heads, sort_of(signature, symbol))
                 || self.seek(children, symbol).is_some(),
@@ -44,11 +42,11 @@ impl Store {
         requires { Leads (nodes_of self.now) children heads.now }
         ensures { result ≡ all_covered (view signature.now) (there heads.now) }
     {
-        for symbol in 0..signature.symbol_count() {
-            if !self.is_covered(signature, heads, children, symbol as u8) {
-                return false;
-            }
-        }
-        true
+        (0..signature.symbol_count()).all(|symbol| self.is_covered(
+            signature,
+            heads,
+            children,
+            symbol as u8,
+        ))
     }
 }

@@ -12,11 +12,7 @@ impl Store {
     pub(crate) fn node(&self, place: usize) -> Option<Node>
         ensures { result ≡ slice_get (nodes_of self.now) place }
     {
-        if place < self.count {
-            Some(self.nodes[place])
-        } else {
-            None
-        }
+        self.nodes.as_slice().get(place).copied()
     }
 
     // The place of the node for a symbol, along links from a node on.
@@ -24,7 +20,8 @@ impl Store {
         ensures { result ≡ the_sought (length (nodes_of self.now)) (nodes_of self.now) first symbol }
     {
         let mut link = first;
-        for _ in 0..self.count {
+        // A loop: tried, past a chain of links nothing is known of the node that is found.
+        for _ in 0..self.nodes.as_slice().len() {
             let place = link?;
             let node = self.node(place)?;
             if node.symbol == symbol {

@@ -5,7 +5,7 @@ ghost use Rattle.terms.specs.Options.{onward};
 ghost use Rattle.trees.specs.Nodes.{first_child, seek, FindsChild};
 ghost use Rattle.trees.specs.Standing.{nodes_in, roots_in};
 
-use super::{MOST_SYMBOLS, Trees};
+use super::Trees;
 use crate::node::{Kind, Node};
 
 impl Trees {
@@ -13,12 +13,7 @@ impl Trees {
     pub fn root(&self, function: u8) -> Option<usize>
         ensures { result ≡ onward (slice_get (roots_in self.now) function) (λ o. o) }
     {
-        let at = function as usize;
-        if at < MOST_SYMBOLS {
-            self.roots[at]
-        } else {
-            None
-        }
+        *self.roots.get(usize::from(function))?
     }
 
     // The node at a place.

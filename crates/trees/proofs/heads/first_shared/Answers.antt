@@ -1,22 +1,30 @@
-use Rattle.std.proofs.Common.{refl, arith}
+use Rattle.std.proofs.Common.{length, get_or, ◌<◌, ◌≡◌, ap, ◌∙◌, List, arith}
 use Rattle.drafts.specs.Books.{book_of}
 use Rattle.drafts.specs.Stores.{seen}
-use Rattle.trees.specs.Opens.{open_of}
+use Rattle.trees.specs.declared.path.Path.{Path}
+use Rattle.trees.specs.Opens.{paths_of}
 use Rattle.trees.proofs.Shares.{shared_here, shared_later, shared_nowhere}
 use Rattle.trees.proofs.heads.first_shared.Goals as goal
+use Rattle.trees.proofs.heads.first_shared.Goals.{After-shared_heads}
 
-pub loop-i-init : goal.loop-i-init
-loop-i-init c = refl
+-- the path at hand is one of the open positions
+at_path : (c : After-shared_heads) → (c.loop-path.path-index < length (paths_of c.args.stage.now.positions)) × (c.path-item.result ≡ get_or (paths_of c.args.stage.now.positions) c.loop-path.path-index c.path-item.result)
+at_path c =
+    let e = c.paths-path-items.ensures in
+    (omega (arith, c.loop-path-test.true, ap (λ (xs : List Path). length xs) e), c.path-item.is ∙ ap (λ (xs : List Path). get_or xs c.loop-path.path-index c.path-item.result) e)
 
 pub returns-in-Some : goal.returns-in-Some
 returns-in-Some c =
-    shared_here (open_of c.args.positions.now) c.args.remain.now (book_of (seen c.args.draft.now)).rules c.loop-i.i c.path-path.result (omega (arith, c.loop-i-test.true, c.len-i-end.ensures)) c.path-path.ensures
-    c.in-Some.heads c.loop-i.invariant c.in-Some.ensures
+    let z = at_path (goal.at.returns-in-Some c).After-shared_heads in
+    shared_here (paths_of c.args.stage.now.positions) c.args.stage.now.remain (book_of (seen c.args.draft.now)).rules c.loop-path.path-index c.path-item.result z.0 z.1 c.in-Some.heads c.loop-path.invariant c.in-Some.ensures
 
-pub loop-i-preserved : goal.loop-i-preserved
-loop-i-preserved c =
-    shared_later (open_of c.args.positions.now) c.args.remain.now (book_of (seen c.args.draft.now)).rules c.loop-i.i c.path-path.result (omega (arith, c.loop-i-test.true, c.len-i-end.ensures)) c.path-path.ensures
-    c.loop-i.invariant c.in_default.ensures
+pub loop-path-preserved : goal.loop-path-preserved
+loop-path-preserved c =
+    let z = at_path (goal.at.loop-path-preserved c).After-shared_heads in
+    shared_later (paths_of c.args.stage.now.positions) c.args.stage.now.remain (book_of (seen c.args.draft.now)).rules c.loop-path.path-index c.path-item.result z.0 z.1 c.loop-path.invariant c.in_default.ensures
 
 pub returns : goal.returns
-returns c = shared_nowhere (open_of c.args.positions.now) c.args.remain.now (book_of (seen c.args.draft.now)).rules c.loop-i.i (omega (arith, c.loop-i-test.false, c.len-i-end.ensures)) c.loop-i.invariant
+returns c =
+    let ds = paths_of c.args.stage.now.positions in
+    let e = c.paths-path-items.ensures in
+    shared_nowhere ds c.args.stage.now.remain (book_of (seen c.args.draft.now)).rules c.loop-path.path-index (omega (arith, c.loop-path-test.false, ap (λ (xs : List Path). length xs) e)) c.loop-path.invariant

@@ -1,18 +1,12 @@
-use Rattle.std.proofs.Common.{◌<◌, length, Some, None, ◌∙◌, arith, rules}
-use Rattle.trees.proofs.Chosen.{starts_at, starts_first, starts_none}
+use Rattle.std.proofs.Common.{◌≡◌, ◌∙◌, ℕ, List, arith, option_map}
+use Rattle.std.proofs.lemmas.Grind.{common_steps}
+use denote.Ref.{Bor}
+use Rattle.terms.specs.Options.{passes}
+use Rattle.drafts.specs.Rules.{starts_with}
+use Rattle.trees.proofs.Chosen.{starts_at}
 use Rattle.trees.proofs.masks.is_rule_of.Goals as goal
-
-pub returns-in_default : goal.returns-in_default
-returns-in_default c = starts_at c.args.draft.now c.args.rule c.args.function None c.in_default.ensures
-
-pub returns-in_default-left : goal.returns-in_default-left
-returns-in_default-left c =
-    let w = c.in-Some.left.now in
-    let k : length w < 1 = search rules in
-    starts_none c.args.function w (omega arith) ∙ starts_at c.args.draft.now c.args.rule c.args.function (Some w) c.in-Some.ensures
 
 pub returns : goal.returns
 returns c =
-    let w = c.in-Some.left.now in
-    let k : 0 < length w = search rules in
-    starts_first c.args.function c.number.result w (omega arith) c.number.ensures ∙ starts_at c.args.draft.now c.args.rule c.args.function (Some w) c.in-Some.ensures
+    let e : c.is_some_and.result ≡ passes (starts_with c.args.function) (option_map (λ (p : Bor (List ℕ)). p.now) c.left.result) = grind (arith, common_steps) in
+    e ∙ starts_at c.args.draft.now c.args.rule c.args.function _ c.left.ensures

@@ -1,22 +1,15 @@
-use Rattle.std.proofs.Common.{Some, None, refl, ◌∙◌}
-use Rattle.terms.specs.Views.{view}
+use Rattle.std.proofs.Common.{◌∙◌, ap}
+use Rattle.terms.specs.Signatures.{Signature}
 use Rattle.trees.specs.Views.{steps_of}
+use Rattle.trees.specs.Rows.{constructor_symbol}
 use Rattle.trees.proofs.LeftSides.{left_symbol}
 use Rattle.trees.proofs.rows.symbol_at.Goals as goal
 
-pub returns-in_err-left : goal.returns-in_err-left
-returns-in_err-left c =
-    c.from_residual.ensures
-    ∙ left_symbol c.args.draft.now (steps_of c.args.path.now) c.args.rule (view c.args.signature.now) c.requires None None c.in_err-left.ensures refl
-
-pub returns-in_err-letter : goal.returns-in_err-letter
-returns-in_err-letter c =
-    c.from_residual-in_err-letter.ensures
-    ∙ left_symbol c.args.draft.now (steps_of c.args.path.now) c.args.rule (view c.args.signature.now) c.requires
-    (Some c.in_ok-left.field-0.now) None c.in_ok-left.ensures c.in_err-letter.ensures
+pub returns-in_err-letter_at : goal.returns-in_err-letter_at
+returns-in_err-letter_at c = c.from_residual.ensures ∙ left_symbol c.args.draft.now (steps_of c.args.path.now) c.args.rule _ c.in_err-letter_at.ensures
 
 pub returns : goal.returns
 returns c =
     c.constructor_symbol.ensures
-    ∙ left_symbol c.args.draft.now (steps_of c.args.path.now) c.args.rule (view c.args.signature.now) c.requires
-    (Some c.in_ok-left.field-0.now) (Some c.in_ok-letter.letter) c.in_ok-left.ensures c.in_ok-letter.ensures
+    ∙ ap (λ (S : Signature). constructor_symbol S c.in_ok-letter_at.field-0) c.signature.ensures.value
+    ∙ left_symbol c.args.draft.now (steps_of c.args.path.now) c.args.rule _ c.in_ok-letter_at.ensures

@@ -1,36 +1,24 @@
-use Rattle.std.proofs.Common.{Some, None, sym, ap, ◌∙◌, subst}
-use Rattle.std.proofs.lemmas.List.{take_rest}
-use Rattle.words.specs.Ends.{part_end}
-use Rattle.words.specs.Statements.{CutsPart}
+use Rattle.std.proofs.Common.{◌≡◌, Some, arith, rules}
+use Rattle.std.proofs.lemmas.Grind.{common_steps}
+use Rattle.words.specs.Places.{part_at}
 use Rattle.terms.specs.Views.{view}
-use Rattle.words.proofs.Cuts.{cuts_part, part_from, no_part_from}
+use Rattle.words.proofs.Cuts.{cuts_of}
 use Rattle.words.proofs.parts.part.Goals as goal
 
-pub returns-in_err-start : goal.returns-in_err-start
-returns-in_err-start c =
+pub returns-in_err-start-clause-cuts : goal.returns-in_err-start-clause-cuts
+returns-in_err-start-clause-cuts c =
     let S = view c.args.signature.now in
-    let w = c.args.word.now in
-    let p = c.args.path.now in
-    let e = c.from_residual.ensures ∙ sym (no_part_from S p w (sym c.in_err-start.ensures.value)) in
-    record { value = e; cuts = subst (CutsPart S p w) (sym e) (cuts_part S p w) }
+    let e : c.from_residual.result ≡ part_at S c.args.path.now c.args.word.now = search rules in
+    cuts_of S _ _ _ e
 
-pub returns-in_err-len : goal.returns-in_err-len
-returns-in_err-len c =
+pub returns-in_err-len-clause-cuts : goal.returns-in_err-len-clause-cuts
+returns-in_err-len-clause-cuts c =
     let S = view c.args.signature.now in
-    let w = c.args.word.now in
-    let p = c.args.path.now in
-    let n = c.in_ok-start.start in
-    let h = c.in_err-len.ensures.value ∙ ap (part_end S) (take_rest w n) in
-    let e = c.from_residual-in_err-len.ensures ∙ sym (part_from S p w n None (sym c.in_ok-start.ensures.value) (sym h)) in
-    record { value = e; cuts = subst (CutsPart S p w) (sym e) (cuts_part S p w) }
+    let e : c.from_residual-in_err-len.result ≡ part_at S c.args.path.now c.args.word.now = grind (arith, common_steps) in
+    cuts_of S _ _ _ e
 
-pub returns : goal.returns
-returns c =
+pub returns-clause-cuts : goal.returns-clause-cuts
+returns-clause-cuts c =
     let S = view c.args.signature.now in
-    let w = c.args.word.now in
-    let p = c.args.path.now in
-    let n = c.in_ok-start.start in
-    let m = c.in_ok-len.len in
-    let h = c.in_ok-len.ensures.value ∙ ap (part_end S) (take_rest w n) in
-    let e = sym (part_from S p w n (Some m) (sym c.in_ok-start.ensures.value) (sym h)) in
-    record { value = e; cuts = subst (CutsPart S p w) (sym e) (cuts_part S p w) }
+    let e : Some (record { start = c.in_ok-start.start; len = c.in_ok-len.len }) ≡ part_at S c.args.path.now c.args.word.now = grind (arith, common_steps) in
+    cuts_of S _ _ _ e

@@ -1,25 +1,22 @@
-use Rattle.std.proofs.Common.{Ok, Err, Option, sym, ap, ◌∙◌}
-use Rattle.std.proofs.lemmas.Result.{err_from_is_err_and}
+use Rattle.std.proofs.Common.{Ok, Option, sym, ap, ◌∙◌}
 use Rattle.drafts.specs.declared.fault.ContentFault.{ContentFault}
 use Rattle.drafts.specs.Contents.{name_fault, sorts_fault}
 use Rattle.drafts.specs.Stores.{seen, named, verdict}
-use Rattle.drafts.proofs.Verdicts.{refused_first, passed_first, passed, again}
+use Rattle.drafts.proofs.Verdicts.{handed, refused_first, passed_first, passed, again}
 use Rattle.drafts.proofs.draft.Draft.new_symbol.Goals as goal
 
 pub returns-in_err-new : goal.returns-in_err-new
 returns-in_err-new c =
     let D = seen c.args.self.now in
     let n = c.args.name.now in
-    let p = err_from_is_err_and c.from_residual.result c.from_residual.ensures.1 in
-    ap named (p.1 ∙ ap Err p.2) ∙ refused_first (name_fault D n) (sorts_fault D c.args.args.now c.args.sort) n n _ c.in_err-new.ensures
+    ap named (handed _ _ c.from_residual.ensures.1) ∙ refused_first (name_fault D n) (sorts_fault D c.args.args.now c.args.sort) n n _ c.in_err-new.ensures
 
 pub returns-in_err-check_sorts : goal.returns-in_err-check_sorts
 returns-in_err-check_sorts c =
     let D = seen c.args.self.now in
     let n = c.args.name.now in
     let o = sorts_fault D c.args.args.now c.args.sort in
-    let p = err_from_is_err_and c.from_residual-in_err-check_sorts.result c.from_residual-in_err-check_sorts.ensures.1 in
-    ap named (p.1 ∙ ap Err p.2) ∙ again o tt n _ c.in_err-check_sorts.ensures ∙ passed_first (name_fault D n) o n _ n c.in_ok-new.ensures
+    ap named (handed _ _ c.from_residual-in_err-check_sorts.ensures.1) ∙ again o tt n _ c.in_err-check_sorts.ensures ∙ passed_first (name_fault D n) o n _ n c.in_ok-new.ensures
 
 pub returns : goal.returns
 returns c =

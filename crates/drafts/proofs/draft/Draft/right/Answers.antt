@@ -1,21 +1,19 @@
-use Rattle.std.proofs.Common.{Some, sym, ap, ◌∙◌, arith}
-use Rattle.terms.specs.Options.{mapped}
+use Rattle.std.proofs.Common.{Some, sym, ap, ◌∙◌, arith, option_map}
 use Rattle.drafts.specs.Drafts.{Sides}
-use Rattle.drafts.proofs.Stores.{rule_in, rule_out, span_within}
+use Rattle.terms.proofs.Tables.{items_fit}
+use Rattle.drafts.proofs.Stores.{rule_at, span_within}
 use Rattle.drafts.proofs.draft.Draft.right.Goals as goal
-
-pub returns-then-rule-self : goal.returns-then-rule-self
-returns-then-rule-self c = sym (ap (mapped (λ (q : Sides). q.right)) (rule_out c.args.self.now c.args.rule c.if-rule-self.true))
 
 pub overflow_add-span : goal.overflow_add-span
 overflow_add-span c =
-    let h = span_within c.args.self.now c.args.rule (record { start = 0; left = 0; right = 0 }) c.if-rule-self.false in
+    let n = items_fit c.args.self.now.letters in
+    let h = span_within c.args.self.now c.args.rule c.in_ok-span.span (sym c.in_ok-span.was ∙ c.span.ensures) in
     omega arith
 
 pub part-requires : goal.part-requires
 part-requires c =
-    let h = span_within c.args.self.now c.args.rule (record { start = 0; left = 0; right = 0 }) c.if-rule-self.false in
+    let h = span_within c.args.self.now c.args.rule c.in_ok-span.span (sym c.in_ok-span.was ∙ c.span.ensures) in
     omega arith
 
 pub returns : goal.returns
-returns c = ap Some c.part.ensures ∙ sym (ap (mapped (λ (q : Sides). q.right)) (rule_in c.args.self.now c.args.rule (record { start = 0; left = 0; right = 0 }) c.if-rule-self.false))
+returns c = ap Some c.part.ensures ∙ sym (ap (option_map (λ (q : Sides). q.right)) (rule_at c.args.self.now c.args.rule c.in_ok-span.span (sym c.in_ok-span.was ∙ c.span.ensures)))

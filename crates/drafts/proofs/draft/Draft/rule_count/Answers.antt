@@ -1,7 +1,8 @@
-use Rattle.std.proofs.Common.{sym}
-use Rattle.drafts.proofs.Stores.{length_rules}
 use Rattle.drafts.proofs.Sound.{sound_rules, book_rules}
 use Rattle.drafts.proofs.draft.Draft.rule_count.Goals as goal
 
-pub returns : goal.returns
-returns c = record { value = sym (length_rules c.args.self.now); sound = sound_rules c.args.self.now; book = book_rules c.args.self.now }
+pub returns-clause-sound : goal.returns-clause-sound
+returns-clause-sound c = sound_rules c.args.self.now
+
+pub returns-clause-book : goal.returns-clause-book
+returns-clause-book c = book_rules c.args.self.now

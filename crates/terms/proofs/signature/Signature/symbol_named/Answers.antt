@@ -1,33 +1,19 @@
-use Rattle.std.proofs.Common.{ℕ, List, sym, ap, ◌∙◌, arith}
+use Rattle.std.proofs.Common.{◌≡◌, ℕ, List, sym, ◌∙◌}
+use Rattle.std.specs.List.{position}
 use Rattle.std.specs.Str.{bytes_eq}
-use Rattle.terms.proofs.Options.{ahead_zero}
-use Rattle.terms.proofs.Names.{named_here, named_more, named_none}
-use Rattle.terms.proofs.Tables.{symbol_names, length_names, symbol_name_in}
+use Rattle.terms.specs.declared.signature.Signature.{Signature as Table}
+use Rattle.terms.specs.Rows.{items}
+use Rattle.terms.specs.Signatures.{Declaration, symbol_named}
+use Rattle.terms.specs.Views.{bytes_of, declaration, view}
+use Rattle.terms.proofs.Names.{position_map}
 use Rattle.terms.proofs.signature.Signature.symbol_named.Goals as goal
 
-pub loop-i-init : goal.loop-i-init
-loop-i-init c = ahead_zero _
+named : (g : Table) (bs : List ℕ) → position (λ y. bytes_eq (bytes_of y.name) bs) (items g.symbols) ≡ symbol_named (view g) bs
+named g bs =
+    position_map declaration (λ (d : Declaration). bytes_eq d.name bs) (items g.symbols) ∙ position_map (λ (d : Declaration). d.name) (λ n. bytes_eq n bs) (view g).symbols
 
-pub returns-then-is : goal.returns-then-is
-returns-then-is c =
-    let g = c.args.self.now in
-    let bs = c.args.bytes.now in
-    let i = c.loop-i.i in
-    let l = length_names g in
-    let e = ap (λ (ns : List ℕ). bytes_eq ns bs) (symbol_name_in g i _ c.loop-i-test.true) ∙ sym c.if-is.ensures in
-    sym (named_here bs (symbol_names g) i (omega (arith, c.loop-i-test.true)) e) ∙ c.loop-i.invariant
-
-pub loop-i-preserved : goal.loop-i-preserved
-loop-i-preserved c =
-    let g = c.args.self.now in
-    let bs = c.args.bytes.now in
-    let i = c.loop-i.i in
-    let l = length_names g in
-    let e = ap (λ (ns : List ℕ). bytes_eq ns bs) (symbol_name_in g i _ c.loop-i-test.true) ∙ sym c.if-is.ensures in
-    sym (named_more bs (symbol_names g) i (omega (arith, c.loop-i-test.true)) e) ∙ c.loop-i.invariant
+pub returns-in_err-symbol_place : goal.returns-in_err-symbol_place
+returns-in_err-symbol_place c = c.from_residual.ensures ∙ sym (c.in_err-symbol_place.was) ∙ c.symbol_place.ensures.value ∙ named c.args.self.now c.args.bytes.now
 
 pub returns : goal.returns
-returns c =
-    let g = c.args.self.now in
-    let l = length_names g in
-    sym (named_none c.args.bytes.now (symbol_names g) c.loop-i.i (omega (arith, c.loop-i-test.false))) ∙ c.loop-i.invariant
+returns c = sym (c.in_ok-symbol_place.was) ∙ c.symbol_place.ensures.value ∙ named c.args.self.now c.args.bytes.now

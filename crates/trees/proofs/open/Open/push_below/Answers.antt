@@ -1,12 +1,8 @@
-use Rattle.std.proofs.Common.{◌≡◌, ℕ, ◌-◌, List, [], ◌∷◌, ◌++◌, ap, ◌∙◌, arith}
-use Rattle.rewriting.specs.Growing.{below}
+use Rattle.std.proofs.Common.{ℕ, List, [], ◌∷◌, ◌++◌, ap, ◌∙◌, arith}
 use Rattle.trees.specs.Views.{steps_of}
 use Rattle.trees.specs.Opens.{open_of}
-use Rattle.trees.proofs.Opens.{pushed_below, all_below, room_below}
+use Rattle.trees.proofs.Opens.{pushed_below, room_below}
 use Rattle.trees.proofs.open.Open.push_below.Goals as goal
-
-pub loop-i-init : goal.loop-i-init
-loop-i-init c = let e : c.args.arity - 0 ≡ c.args.arity = omega arith in ap (λ (n : ℕ). open_of c.args.self.now ++ below (steps_of c.args.path.now) 1 n) e
 
 pub push-requires : goal.push-requires
 push-requires c =
@@ -17,6 +13,3 @@ pub loop-i-preserved : goal.loop-i-preserved
 loop-i-preserved c =
     pushed_below (open_of c.push.new.self) _ (open_of c.loop-i.self) (steps_of c.args.path.now) c.loop-i.i c.args.arity c.loop-i-test.true c.loop-i.invariant
     (c.push.ensures ∙ ap (λ (q : List ℕ). open_of c.loop-i.self ++ (q ∷ [])) c.down.ensures)
-
-pub returns : goal.returns
-returns c = all_below (open_of c.loop-i.self) _ (steps_of c.args.path.now) c.loop-i.i c.args.arity c.loop-i-test.false c.loop-i.invariant

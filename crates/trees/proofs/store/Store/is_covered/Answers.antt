@@ -3,7 +3,7 @@ use Rattle.std.specs.List.{slice_get}
 use Rattle.terms.specs.Views.{view}
 use Rattle.rewriting.specs.Completeness.{makes}
 use Rattle.trees.specs.Rows.{there}
-use Rattle.trees.proofs.Scanned.{role_symbol, among_there, covered_met}
+use Rattle.trees.proofs.Scanned.{among_there, covered_met}
 use Rattle.trees.proofs.store.Store.is_covered.Goals as goal
 
 pub returns-else-not-makes : goal.returns-else-not-makes
@@ -13,9 +13,6 @@ returns-else-not-makes c =
     let s = c.args.symbol in
     c.is_some.ensures
     ∙ ap is_some c.seek.ensures
-    ∙ c.requires.leads s
+    ∙ c.requires s
     ∙ sym (among_there s c.args.heads.now)
-    ∙ sym (
-    covered_met S cs s (slice_get S.symbols s)
-    (let r = role_symbol S s c.requires.declared in let n = c.number.ensures in let e = c.in-Some-Constructor.ensures in cc)
-    (ap (λ (k : ℕ). makes S k cs) (sym c.sort_of.ensures) ∙ sym c.if-not-makes.ensures))
+    ∙ sym (covered_met S cs s (slice_get S.symbols s) (let e = c.in-Some-Constructor.ensures in cc) (ap (λ (k : ℕ). makes S k cs) (sym c.sort_of.ensures) ∙ sym c.if-not-makes.ensures))

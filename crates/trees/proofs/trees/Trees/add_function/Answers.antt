@@ -1,98 +1,83 @@
-use Rattle.std.proofs.Common.{◌≡◌, ℕ, ◌<◌, true, false, length, set, Some, sym, refl, ap, ◌∙◌, arith}
+use Rattle.std.proofs.Common.{◌≡◌, ◌<◌, length, set, Some, Err, sym, refl, ap, ◌∙◌, subst, arith}
 use Rattle.std.proofs.lemmas.Bool.{not-true, not-false}
+use Rattle.std.proofs.lemmas.Result.{err_from_is_err_and}
+use Rattle.trees.specs.declared.fault.CheckFault.TheVariants.{NoTree}
+use Rattle.rewriting.specs.Trees.{Node as Tree}
 use Rattle.rewriting.specs.FixedTree.{fixed_tree}
-use Rattle.rewriting.specs.Growing.{open_call, grow}
+use Rattle.rewriting.specs.Completeness.{is_complete}
+use Rattle.rewriting.specs.Growing.{grow}
 use Rattle.drafts.specs.Drafts.{longest_side}
 use Rattle.drafts.specs.Books.{book_of}
 use Rattle.drafts.specs.Stores.{seen}
-use Rattle.drafts.proofs.Sound.{counted_contents}
 use Rattle.trees.specs.Opens.{open_of}
 use Rattle.trees.specs.Rows.{chosen}
-use Rattle.trees.specs.Growth.{nodes_of, cost}
-use Rattle.trees.proofs.Places.{nth_below}
-use Rattle.trees.proofs.Told.{grown_some, grown_none}
+use Rattle.trees.specs.Nodes.{Is}
+use Rattle.trees.specs.Growth.{nodes_of, IsGrown, cost}
+use Rattle.trees.proofs.Told.{grown_some, grown_none, ok_none}
 use Rattle.trees.proofs.Branches.{few_arguments}
-use Rattle.trees.proofs.Rooting.{length_nodes, call_open, function_stage, function_tree, function_room, no_tree, incomplete, complete, function_added}
+use Rattle.trees.proofs.Rooting.{call_open, Called, called, function_below, no_tree, incomplete, complete, function_added}
 use Rattle.trees.proofs.trees.Trees.add_function.Goals as goal
+use Rattle.trees.proofs.trees.Trees.add_function.Goals.{After-rules_of, In_ok-grown}
 
-pub of_call-open-requires : goal.of_call-open-requires
-of_call-open-requires c = let f = few_arguments c.args.signature.now c.args.function in omega (arith, c.arity_of.ensures)
+-- the function's call
+at_function : (c : After-rules_of) → Called c.args.draft.now c.args.function (open_of c.of_call.result) c.rules_of.result
+at_function c = called c.args.draft.now c.args.function (open_of c.of_call.result) c.rules_of.result c.requires.whole c.requires.function
+    (call_open c.args.function c.of_call.ensures c.arity_of.ensures c.signature.ensures.value) c.rules_of.ensures
+
+-- the tree that was grown is the fixed tree
+at_tree : (c : In_ok-grown) → (t : Tree) × (fixed_tree (book_of (seen c.args.draft.now)) c.args.function ≡ Some t) × Is (book_of (seen c.args.draft.now)).rules (nodes_of c.grow.new.self) c.in_ok-grown.grown.kind t × (c.in_ok-grown.grown.complete ≡ is_complete (seen c.args.draft.now).signature t)
+at_tree c =
+    let B = book_of (seen c.args.draft.now) in
+    let tree = grow B.signature longest_side (open_of c.of_call.result) (chosen c.rules_of.result B.rules) in
+    let z = at_function (goal.at.In_ok-grown c).After-rules_of in
+    let g = grown_some B.signature B.rules (nodes_of c.grow.new.self) tree c.in_ok-grown.grown (subst (IsGrown B.signature B.rules (nodes_of c.grow.new.self) tree) c.in_ok-grown.ensures.ok_part c.grow.ensures.grown) in
+    (g.0, sym z.tree ∙ g.1, g.2, g.3)
+
+pub of_call-requires : goal.of_call-requires
+of_call-requires c = let f = few_arguments c.signature.result.now c.args.function in omega (arith, c.arity_of.ensures)
 
 pub grow-requires : goal.grow-requires
 grow-requires c =
-    let d = c.args.draft.now in
-    let S = (seen d).signature in
-    let f = c.args.function in
-    let e : open_of c.of_call-open.result ≡ open_call S f = call_open f c.of_call-open.ensures c.arity_of.ensures c.requires.same in
-    let r = function_room d f c.requires.whole c.requires.function (open_of c.of_call-open.result) c.rules_of-rules.result e c.rules_of-rules.ensures in
-    let l = length_nodes c.args.self.now.store in
-    record {
-      same = c.requires.same;
-      stage = function_stage d f c.requires.whole c.requires.function (open_of c.of_call-open.result) c.rules_of-rules.result e c.rules_of-rules.ensures;
-      room = omega (arith, c.requires.room);
-    }
+    let z = at_function (goal.at.grow-requires c).After-rules_of in
+    record { stage = z.stage; room = omega (arith, c.requires.room, z.room) }
 
-pub returns-in_default : goal.returns-in_default
-returns-in_default c =
-    let d = c.args.draft.now in
-    let B = book_of (seen d) in
-    let S = (seen d).signature in
+pub returns-in_err-grown-clause-fault : goal.returns-in_err-grown-clause-fault
+returns-in_err-grown-clause-fault c =
+    let B = book_of (seen c.args.draft.now) in
+    let S = B.signature in
     let f = c.args.function in
-    let ps = open_of c.of_call-open.result in
-    let ms = c.rules_of-rules.result in
-    let e : ps ≡ open_call S f = call_open f c.of_call-open.ensures c.arity_of.ensures c.requires.same in
-    let t = function_tree d f c.requires.whole c.requires.function ps ms e c.rules_of-rules.ensures in
-    let n = grown_none S B.rules (nodes_of c.grow.new.self) (grow S longest_side ps (chosen ms B.rules)) c.in_default.ensures.grown in
-    record { fault = no_tree tt S f (fixed_tree B f) (sym t ∙ n); added = tt }
+    let z = at_function (goal.at.returns-in_err-grown-clause-fault c).After-rules_of in
+    let tree = grow S longest_side (open_of c.of_call.result) (chosen c.rules_of.result B.rules) in
+    let o = ok_none c.grow.result (NoTree f) c.in_err-grown.field-0.0 c.in_err-grown.ensures.value in
+    let n = grown_none S B.rules (nodes_of c.grow.new.self) tree (subst (IsGrown S B.rules (nodes_of c.grow.new.self) tree) o.0 c.grow.ensures.grown) in
+    let p = err_from_is_err_and c.from_residual.result c.from_residual.ensures.1 in
+    p.1 ∙ ap Err (p.2 ∙ o.1) ∙ no_tree tt S f (fixed_tree B f) (sym z.tree ∙ n)
 
 pub returns-then-not-grown : goal.returns-then-not-grown
 returns-then-not-grown c =
-    let d = c.args.draft.now in
-    let B = book_of (seen d) in
-    let S = (seen d).signature in
-    let f = c.args.function in
-    let ps = open_of c.of_call-open.result in
-    let ms = c.rules_of-rules.result in
-    let e : ps ≡ open_call S f = call_open f c.of_call-open.ensures c.arity_of.ensures c.requires.same in
-    let t = function_tree d f c.requires.whole c.requires.function ps ms e c.rules_of-rules.ensures in
-    let g = grown_some S B.rules (nodes_of c.grow.new.self) (grow S longest_side ps (chosen ms B.rules)) c.in-Some.grown c.in-Some.ensures.grown in
-    let no : c.in-Some.grown.complete ≡ false = not-true c.in-Some.grown.complete c.if-not-grown.true in
-    record { fault = incomplete tt S f (fixed_tree B f) g.0 (sym t ∙ g.1) (sym g.3 ∙ no); added = tt }
+    let B = book_of (seen c.args.draft.now) in
+    let g = at_tree (goal.at.returns-then-not-grown c).In_ok-grown in
+    let no = not-true c.in_ok-grown.grown.complete c.if-not-grown.true in
+    record { fault = incomplete tt B.signature c.args.function (fixed_tree B c.args.function) g.0 g.1 (sym g.3 ∙ no); added = tt }
 
 pub push-root-requires : goal.push-root-requires
 push-root-requires c =
-    let d = c.args.draft.now in
-    let S = (seen d).signature in
-    let f = c.args.function in
-    let e : open_of c.of_call-open.result ≡ open_call S f = call_open f c.of_call-open.ensures c.arity_of.ensures c.requires.same in
-    let r = function_room d f c.requires.whole c.requires.function (open_of c.of_call-open.result) c.rules_of-rules.result e c.rules_of-rules.ensures in
-    let l = length_nodes c.args.self.now.store in
-    omega (arith, c.requires.room, c.in-Some.ensures.added.fewer)
+    let z = at_function (goal.at.push-root-requires c).After-rules_of in
+    omega (arith, c.requires.room, z.room, c.grow.ensures.added.fewer)
 
 pub bounds-self-function : goal.bounds-self-function
-bounds-self-function c =
-    let d = c.args.draft.now in
-    let k = (counted_contents d).few_symbols in
-    let l = nth_below (seen d).signature.symbols c.args.function c.requires.function.1 in
-    omega arith
+bounds-self-function c = let l = function_below c.args.draft.now c.args.function c.requires.function in omega arith
 
 pub returns : goal.returns
 returns c =
-    let d = c.args.draft.now in
-    let B = book_of (seen d) in
-    let S = (seen d).signature in
+    let B = book_of (seen c.args.draft.now) in
     let f = c.args.function in
-    let ps = open_of c.of_call-open.result in
-    let ms = c.rules_of-rules.result in
-    let e : ps ≡ open_call S f = call_open f c.of_call-open.ensures c.arity_of.ensures c.requires.same in
-    let t = function_tree d f c.requires.whole c.requires.function ps ms e c.rules_of-rules.ensures in
-    let r = function_room d f c.requires.whole c.requires.function ps ms e c.rules_of-rules.ensures in
-    let z = c.in-Some.ensures in
-    let g = grown_some S B.rules (nodes_of c.grow.new.self) (grow S longest_side ps (chosen ms B.rules)) c.in-Some.grown z.grown in
-    let l : f < length c.args.self.now.roots = (let k = (counted_contents d).few_symbols in let n = nth_below S.symbols f c.requires.function.1 in let w = c.args.self.now.long in omega arith) in
-    let yes : c.in-Some.grown.complete ≡ true = not-false c.in-Some.grown.complete c.if-not-grown.false in
+    let a = c.args.self.now in
+    let z = at_function (goal.at.returns c).After-rules_of in
+    let g = at_tree (goal.at.returns c).In_ok-grown in
+    let l : f < length a.roots = (let k = function_below c.args.draft.now f c.requires.function in let w = a.long in omega arith) in
+    let yes = not-false c.in_ok-grown.grown.complete c.if-not-grown.false in
     record {
-      fault = complete tt S f (fixed_tree B f) g.0 (sym t ∙ g.1) (sym g.3 ∙ yes);
-      added = function_added B f c.args.self.now _ c.grow.new.self _ g.0 (cost longest_side (chosen ms B.rules)) l z.added (sym t ∙ g.1) g.2 refl c.push-root.ensures.pushed c.push-root.ensures.count
-          (ap (λ (k : ℕ). set c.args.self.now.roots f (Some k)) c.push-root.ensures.place) r;
+      fault = complete tt B.signature f (fixed_tree B f) g.0 g.1 (sym g.3 ∙ yes);
+      added = function_added B f a _ c.grow.new.self _ g.0 (cost longest_side (chosen c.rules_of.result B.rules)) l c.grow.ensures.added g.1 g.2 refl c.push-root.ensures.pushed (ap (set a.roots f) c.push-root.ensures.place) z.room;
     }

@@ -1,8 +1,7 @@
-use Rattle.std.proofs.Common.{◌<◌, true, false, Option, sym, ap, ◌∙◌, arith}
+use Rattle.std.proofs.Common.{true, false, Option, sym, ap, ◌∙◌}
 use Rattle.terms.specs.Views.{view}
 use Rattle.drafts.specs.Books.{book_of}
 use Rattle.drafts.specs.Stores.{seen, verdict}
-use Rattle.drafts.proofs.Sound.{counted_contents}
 use Rattle.trees.specs.declared.fault.CheckFault.{CheckFault}
 use Rattle.trees.proofs.Rooting.{nothing_added, function_told, a_function, no_function, function_fault, no_fault}
 use Rattle.trees.proofs.trees.Trees.add_tree.Goals as goal
@@ -12,16 +11,14 @@ add_function-requires c =
     let d = c.args.draft.now in
     let S = (seen d).signature in
     let s = c.args.symbol in
-    let few : s < 96 = (let k = (counted_contents d).few_symbols in omega (arith, c.requires.declared)) in
-    record { same = c.requires.same; whole = c.requires.whole; function = a_function S s (function_told S (view c.args.signature.now) s true few c.requires.same c.if-is_function.ensures); room = c.requires.room }
+    record { whole = c.requires.whole; function = a_function S s (function_told S (view c.signature.result.now) s true c.signature.ensures.value c.if-is_function.ensures); room = c.requires.room }
 
 pub returns-then-is_function : goal.returns-then-is_function
 returns-then-is_function c =
     let d = c.args.draft.now in
     let S = (seen d).signature in
     let s = c.args.symbol in
-    let few : s < 96 = (let k = (counted_contents d).few_symbols in omega (arith, c.requires.declared)) in
-    let h = a_function S s (function_told S (view c.args.signature.now) s true few c.requires.same c.if-is_function.ensures) in
+    let h = a_function S s (function_told S (view c.signature.result.now) s true c.signature.ensures.value c.if-is_function.ensures) in
     record { fault = c.add_function.ensures.fault ∙ ap (λ (o : Option CheckFault). verdict o tt) (sym (function_fault (book_of (seen d)) s h)); added = c.add_function.ensures.added }
 
 pub returns-else-is_function : goal.returns-else-is_function
@@ -29,6 +26,5 @@ returns-else-is_function c =
     let d = c.args.draft.now in
     let S = (seen d).signature in
     let s = c.args.symbol in
-    let few : s < 96 = (let k = (counted_contents d).few_symbols in omega (arith, c.requires.declared)) in
-    let n = function_told S (view c.args.signature.now) s false few c.requires.same c.if-is_function.ensures in
+    let n = function_told S (view c.signature.result.now) s false c.signature.ensures.value c.if-is_function.ensures in
     record { fault = ap (λ (o : Option CheckFault). verdict o tt) (sym (no_fault (book_of (seen d)) s n)); added = nothing_added (book_of (seen d)) s c.args.self.now (no_function S s n) }

@@ -1,8 +1,7 @@
-use Rattle.std.proofs.Common.{◌≡◌, ℕ, List, length, IfOk, Err, Option, Result, sym, refl, ap, ◌∙◌, subst, arith}
+use Rattle.std.proofs.Common.{◌≡◌, ℕ, List, length, IfOk, Err, Option, Result, sym, refl, ap, ◌∙◌, subst, arith, option_map}
 use Rattle.std.proofs.lemmas.Result.{err_from_is_err_and}
-use Rattle.terms.specs.Options.{mapped}
+use Rattle.std.specs.Option.{option_or}
 use Rattle.terms.specs.Signatures.{Signature}
-use Rattle.rewriting.specs.FixedTree.{or_else}
 use Rattle.drafts.specs.Books.{book_of}
 use Rattle.drafts.specs.Stores.{seen}
 use Rattle.drafts.proofs.Verdicts.{refused, passed}
@@ -16,6 +15,11 @@ use Rattle.trees.proofs.Places.{nth_below}
 use Rattle.trees.proofs.Drafted.{draft_room}
 use Rattle.trees.proofs.Rooting.{up_to_next, up_to_fault, first_none, function_stands}
 use Rattle.trees.proofs.trees.Trees.of.Goals as goal
+use Rattle.trees.proofs.trees.Trees.of.Goals.{After-symbol_count-symbol-end}
+
+-- how many symbols there are
+at_count : (c : After-symbol_count-symbol-end) → c.symbol_count-symbol-end.result ≡ length (seen c.args.draft.now).signature.symbols
+at_count c = c.symbol_count-symbol-end.ensures.value ∙ ap (λ (S : Signature). length S.symbols) c.signature.ensures.value
 
 pub loop-symbol-init : goal.loop-symbol-init
 loop-symbol-init c =
@@ -27,21 +31,21 @@ loop-symbol-init c =
 pub add_tree-requires : goal.add_tree-requires
 add_tree-requires c =
     let d = c.args.draft.now in
-    let n : c.symbol_count-symbol-end.result ≡ length (seen d).signature.symbols = c.symbol_count-symbol-end.ensures ∙ ap (λ (S : Signature). length S.symbols) c.signature-signature.ensures.value in
-    record { same = c.signature-signature.ensures.value; whole = sym c.in_default.ensures; declared = omega (arith, c.loop-symbol-test.true); room = c.loop-symbol.invariant.room }
+    let n = at_count (goal.at.add_tree-requires c).After-symbol_count-symbol-end in
+    record { whole = sym c.in_default.ensures; declared = omega (arith, c.loop-symbol-test.true); room = c.loop-symbol.invariant.room }
 
 pub returns-in_err-add_tree : goal.returns-in_err-add_tree
 returns-in_err-add_tree c =
     let d = c.args.draft.now in
     let B = book_of (seen d) in
     let s = c.loop-symbol.symbol in
-    let n : c.symbol_count-symbol-end.result ≡ length (seen d).signature.symbols = c.symbol_count-symbol-end.ensures ∙ ap (λ (S : Signature). length S.symbols) c.signature-signature.ensures.value in
+    let n = at_count (goal.at.returns-in_err-add_tree c).After-symbol_count-symbol-end in
     let p = err_from_is_err_and c.from_residual.result c.from_residual.ensures.1 in
     let e = c.in_err-add_tree.field-0.0 in
     let f = up_to_fault B s c.loop-symbol.trees e (omega (arith, c.loop-symbol-test.true)) (refused (fault_at B s) tt e c.in_err-add_tree.ensures.fault) c.loop-symbol.invariant in
     let r = p.1 ∙ ap Err p.2 in
     record {
-      fault = ap refusal r ∙ sym f ∙ ap (λ (o : Option ℕ). or_else (mapped RulesMissing o) (first_fault B 0 B.signature.symbols)) c.in_default.ensures;
+      fault = ap refusal r ∙ sym f ∙ ap (λ (o : Option ℕ). option_or (option_map RulesMissing o) (first_fault B 0 B.signature.symbols)) c.in_default.ensures;
       rooted = subst (λ (x : Result Trees CheckFault). IfOk x (AllRooted B)) (sym r) tt;
     }
 
@@ -50,7 +54,7 @@ loop-symbol-preserved c =
     let d = c.args.draft.now in
     let B = book_of (seen d) in
     let s = c.loop-symbol.symbol in
-    let n : c.symbol_count-symbol-end.result ≡ length (seen d).signature.symbols = c.symbol_count-symbol-end.ensures ∙ ap (λ (S : Signature). length S.symbols) c.signature-signature.ensures.value in
+    let n = at_count (goal.at.loop-symbol-preserved c).After-symbol_count-symbol-end in
     let z = c.in_ok-add_tree.ensures in
     up_to_next B s c.loop-symbol.trees c.add_tree.new.self (omega (arith, c.loop-symbol-test.true)) (passed (fault_at B s) tt _ z.fault).0 z.added c.loop-symbol.invariant
 
@@ -59,9 +63,9 @@ returns c =
     let d = c.args.draft.now in
     let B = book_of (seen d) in
     let s = c.loop-symbol.symbol in
-    let n : c.symbol_count-symbol-end.result ≡ length (seen d).signature.symbols = c.symbol_count-symbol-end.ensures ∙ ap (λ (S : Signature). length S.symbols) c.signature-signature.ensures.value in
+    let n = at_count (goal.at.returns c).After-symbol_count-symbol-end in
     let h = c.loop-symbol.invariant in
     record {
-      fault = sym (first_none B s c.loop-symbol.trees (omega (arith, c.loop-symbol-test.false)) h) ∙ ap (λ (o : Option ℕ). or_else (mapped RulesMissing o) (first_fault B 0 B.signature.symbols)) c.in_default.ensures;
+      fault = sym (first_none B s c.loop-symbol.trees (omega (arith, c.loop-symbol-test.false)) h) ∙ ap (λ (o : Option ℕ). option_or (option_map RulesMissing o) (first_fault B 0 B.signature.symbols)) c.in_default.ensures;
       rooted = λ f k. let g = function_stands d f k in let l = nth_below B.signature.symbols f g.1 in h.rooted f (omega (arith, c.loop-symbol-test.false)) g;
     }

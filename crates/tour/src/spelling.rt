@@ -1,0 +1,65 @@
+// How letters, parts of words and positions are printed.
+use std::fmt;
+use terms::letter::Letter;
+use terms::signature::Signature;
+use words::part::Part;
+
+// A letter by its name or number.
+#[derive(Clone, Copy)]
+struct Spelled<'a> {
+    signature: &'a Signature,
+    letter: u64,
+}
+
+impl fmt::Display for Spelled<'_> {
+    fn fmt<W: fmt::Write>(&self, f: &mut fmt::Formatter<W>) -> fmt::Result {
+        match Letter::try_from(self.letter) {
+            Ok(Letter::Cell(cell)) => write!(f, "{cell}"),
+            Ok(Letter::Variable(variable)) => write!(f, "X{variable}"),
+            Ok(Letter::Symbol(symbol)) => match self.signature.symbol_name(symbol) {
+                Some(name) => write!(f, "{name}"),
+                None => f.write_str("?"),
+            },
+            Err(_) => f.write_str("?"),
+        }
+    }
+}
+
+// The letters of a part of a word, each after a blank.
+#[derive(Clone, Copy)]
+pub struct Letters<'a> {
+    pub signature: &'a Signature,
+    pub word: &'a [u64],
+    pub part: Part,
+}
+
+impl fmt::Display for Letters<'_> {
+    fn fmt<W: fmt::Write>(&self, f: &mut fmt::Formatter<W>) -> fmt::Result {
+        for letter in self.word.iter().skip(self.part.start).take(self.part.len) {
+            let spelled = Spelled {
+                signature: self.signature,
+                letter: *letter,
+            };
+            write!(f, " {spelled}")?;
+        }
+        Ok(())
+    }
+}
+
+// A position: argument numbers with dots between. It stands in tour_checks too, as programs share no crate of their own.
+#[derive(Clone, Copy)]
+pub struct Position<'a>(pub &'a [u8]);
+
+impl fmt::Display for Position<'_> {
+    fn fmt<W: fmt::Write>(&self, f: &mut fmt::Formatter<W>) -> fmt::Result {
+        let Position(path) = self;
+        let [first, rest @ ..] = path else {
+            return f.write_str("root");
+        };
+        write!(f, "{first}")?;
+        for number in rest {
+            write!(f, ".{number}")?;
+        }
+        Ok(())
+    }
+}

@@ -1,8 +1,0 @@
-use Rattle.std.proofs.Common.{◌≡◌, ◌-◌, ◌≤◌, length, drop}
-use Rattle.terms.specs.Options.{ahead}
-use Rattle.words.specs.Ends.{end_of}
-use Rattle.terms.specs.Views.{view}
-use Rattle.words.proofs.parts.argument.Given as goal
-
-abbrev pub invariant-loop : goal.invariant-loop
-invariant-loop l = (l.at ≤ length l.rest) × (end_of (view l.signature) (l.number - 1) l.rest ≡ ahead l.at (end_of (view l.signature) (l.number - l.counter) (drop l.at l.rest)))
