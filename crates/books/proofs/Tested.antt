@@ -1,13 +1,13 @@
 -- The tests of rule sets tell what they should.
-use Rattle.std.proofs.Common.{◌≡◌, ℕ, zero, suc, ◌+◌, Bool, true, ◌&&◌, eqb, List, [], ◌∷◌, Some, None, Option, sym, refl, ap, ◌∙◌, subst, ap₂, arith}
+use Rattle.std.proofs.Common.{◌≡◌, ℕ, zero, suc, ◌+◌, Bool, true, false, ◌&&◌, ◌||◌, eqb, ◌⊎◌, List, [], ◌∷◌, length, Some, None, Option, sym, refl, ap, ◌∙◌, subst, ap₂, inl, inr, arith, option_map, ◌==◌, ◌<◌, ◌≤◌}
 use Rattle.std.specs.List.{slice_get}
 use Rattle.std.specs.Str.{bytes_eq}
-use Rattle.std.proofs.lemmas.Bool.{and_parts, and_from, eqb-true, eq-eqb, ltb-true, lt-ltb}
+use Rattle.std.proofs.lemmas.Bool.{and_parts, and_from, eqb-true, eq-eqb, ltb-true, lt-ltb, or_left, or_right, cases_lt}
 use Rattle.terms.specs.declared.signature.Role.{Role}
 use Rattle.terms.specs.declared.signature.Role.TheVariants.{Constructor, Function, Operation}
 use Rattle.terms.specs.Terms.{Head, symbol, Term, var, con, fun, Terms, nil, ◌▸◌}
 use Rattle.terms.specs.Options.{onward, passes}
-use Rattle.terms.specs.Signatures.{Declaration}
+use Rattle.terms.specs.Signatures.{Declaration, Signature}
 use Rattle.terms.proofs.Letters.{zero_one}
 use Rattle.rewriting.specs.Rules.{Rule, Book}
 use Rattle.rewriting.specs.Trees.{Node as Tree, at_rule, branch, Nodes as Children, no_child, child}
@@ -24,12 +24,13 @@ use Rattle.trees.specs.declared.node.Kind.{Kind}
 use Rattle.trees.specs.declared.node.Kind.TheVariants.{Rule as RuleNode, Branch}
 use Rattle.trees.specs.declared.trees.Trees.{Trees}
 use Rattle.trees.specs.Views.{steps_of}
-use Rattle.trees.specs.Nodes.{Before, first_child, Is, is_rule, is_branch, Linked, no_link, link}
-use Rattle.trees.specs.Checks.{check_fault}
-use Rattle.trees.specs.Standing.{nodes_in, roots_in, Rooted, AllRooted}
-use Rattle.trees.proofs.Rooting.{function_stands, stands_function}
+use Rattle.trees.specs.Nodes.{Before, first_child, Is, is_rule, is_branch, Linked, no_link, link, Reaches, reach_here, reach_below, reach_next}
+use Rattle.trees.specs.Checks.{function_role, check_fault}
+use Rattle.trees.specs.Standing.{nodes_in, roots_in, IsFunction, Rooted, AllRooted, OthersRootless, OnTree, AllOnTrees, NodesOnly, trees_size}
+use Rattle.trees.proofs.Places.{nth_below}
+use Rattle.trees.proofs.Rooting.{a_function, no_function, function_stands, stands_function}
 use Rattle.books.specs.Statements.{SoundSet}
-use Rattle.books.specs.Soundness.{same_term, same_terms, same_rule, goes_before, is_root, are_linked, stands_at, is_rooted, rooted_as, all_rooted, is_none, set_sound, is_accepted}
+use Rattle.books.specs.Soundness.{same_term, same_terms, same_rule, goes_before, is_root, are_linked, stands_at, is_rooted, rooted_as, all_rooted, only_functions, reaches, is_in, is_on, all_on, nodes_on, is_counted, is_none, set_sound, is_accepted}
 
 -- terms and rules
 mutual
@@ -194,22 +195,176 @@ none_there : {A : Type 0} (o : Option A) → is_none o ≡ true → o ≡ None
 none_there None e = refl
 none_there (Some a) e = absurd (zero_one (cc))
 
--- a rule set: its test and what it tells
-pub set_tested : (d : Draft) (t : Trees) → awaited (seen d) ≡ None → AllRooted (book_of (seen d)) t → set_sound (seen d) t ≡ true
-set_tested d t e h =
-    and_from (is_none (awaited (seen d))) (all_rooted (book_of (seen d)) t 0 (seen d).signature.symbols) (ap is_none e)
-    (all_tested (book_of (seen d)) t 0 (seen d).signature.symbols (λ k y i r. let z : k ≡ 0 + k = omega arith in subst (Rooted (book_of (seen d)) t) z (h k (stands_function d k (y, i, r)))))
+-- roots of symbols that are no function
+module _ (S : Signature) where
+  abbrev None_else : ℕ → List (Option ℕ) → Type 0
+  None_else s os = (k : ℕ) → (IsFunction S (s + k) → ⊥) → onward (slice_get os k) (λ (o : Option ℕ). o) ≡ None
 
-pub set_tells : (d : Draft) (t : Trees) → set_sound (seen d) t ≡ true → SoundSet (seen d) t
-set_tells d t e =
-    let a = and_parts (is_none (awaited (seen d))) (all_rooted (book_of (seen d)) t 0 (seen d).signature.symbols) e in
-    record {
-      contents = sound_contents d;
-      counted = counted_contents d;
-      rules = book_rules d;
-      whole = none_there (awaited (seen d)) a.0;
-      rooted = λ f h. let x = function_stands d f h in let z : 0 + f ≡ f = omega arith in subst (Rooted (book_of (seen d)) t) z (all_from_test (book_of (seen d)) t 0 (seen d).signature.symbols a.1 f x.0 x.1 x.2);
-    }
+  rest_else : (s : ℕ) (o : Option ℕ) (os : List (Option ℕ)) → None_else s (o ∷ os) → None_else (suc s) os
+  rest_else s o os h k n = let z : s + suc k ≡ suc s + k = omega arith in h (suc k) (λ f. n (subst (IsFunction S) z f))
+
+  only_tested : (s : ℕ) (os : List (Option ℕ)) → None_else s os → only_functions S s os ≡ true
+  only_tested s [] h = refl
+  only_tested s (None ∷ os) h = only_tested (suc s) os (rest_else s None os h)
+  only_tested s (Some i ∷ os) h = and_from (role_at s) (only_functions S (suc s) os) (go (role_at s) refl) (only_tested (suc s) os (rest_else s (Some i) os h))
+    where
+      role_at : ℕ → Bool
+      role_at s = function_role (option_map (λ d. d.role) (slice_get S.symbols s))
+
+      go : (b : Bool) → role_at s ≡ b → role_at s ≡ true
+      go true e = e
+      go false e = let z : s + 0 ≡ s = omega arith in let x = h 0 (λ f. no_function S s e (subst (IsFunction S) z f)) in absurd (zero_one (cc))
+
+  only_tells : (s : ℕ) (os : List (Option ℕ)) → only_functions S s os ≡ true → None_else s os
+  only_tells s [] e k n = refl
+  only_tells s (None ∷ os) e zero n = refl
+  only_tells s (None ∷ os) e (suc k) n = let z : suc s + k ≡ s + suc k = omega arith in only_tells (suc s) os e k (λ f. n (subst (IsFunction S) z f))
+  only_tells s (Some i ∷ os) e zero n =
+      let a = and_parts (function_role (option_map (λ d. d.role) (slice_get S.symbols s))) (only_functions S (suc s) os) e in
+      let z : s ≡ s + 0 = omega arith in
+      absurd (n (subst (IsFunction S) z (a_function S s a.0)))
+  only_tells s (Some i ∷ os) e (suc k) n =
+      let a = and_parts (function_role (option_map (λ d. d.role) (slice_get S.symbols s))) (only_functions S (suc s) os) e in
+      let z : suc s + k ≡ s + suc k = omega arith in
+      only_tells (suc s) os a.1 k (λ f. n (subst (IsFunction S) z f))
+
+-- one of two tests
+one_true : (a b : Bool) → (a || b) ≡ true → (a ≡ true) ⊎ (b ≡ true)
+one_true true b e = inl refl
+one_true false b e = inr e
+
+-- links that reach a place
+module _ (ns : List Node) (j : ℕ) where
+  reach_true : (k : ℕ) (o : Option ℕ) → reaches k ns j o ≡ true → Reaches ns j o
+  reach_true zero o e = absurd (zero_one (cc))
+  reach_true (suc k) None e = absurd (zero_one (cc))
+  reach_true (suc k) (Some i) e = go (one_true (eqb i j) (passes step (slice_get ns i)) e) (λ o. reach_true k o)
+    where
+      step : Node → Bool
+      step n = (goes_before i (first_child n.kind) && reaches k ns j (first_child n.kind)) || (goes_before i n.next && reaches k ns j n.next)
+
+      at : (n : Node) → slice_get ns i ≡ Some n → ((o : Option ℕ) → reaches k ns j o ≡ true → Reaches ns j o)
+          → ((goes_before i (first_child n.kind) && reaches k ns j (first_child n.kind)) ≡ true) ⊎ ((goes_before i n.next && reaches k ns j n.next) ≡ true) → Reaches ns j (Some i)
+      at n s f (inl p) = let a = and_parts (goes_before i (first_child n.kind)) (reaches k ns j (first_child n.kind)) p in reach_below s (before_true i (first_child n.kind) a.0) (f (first_child n.kind) a.1)
+      at n s f (inr p) = let a = and_parts (goes_before i n.next) (reaches k ns j n.next) p in reach_next s (before_true i n.next a.0) (f n.next a.1)
+
+      go : (eqb i j ≡ true) ⊎ (passes step (slice_get ns i) ≡ true) → ((o : Option ℕ) → reaches k ns j o ≡ true → Reaches ns j o) → Reaches ns j (Some i)
+      go (inl p) f = subst (λ (x : ℕ). Reaches ns j (Some x)) (sym (eqb-true i j p)) reach_here
+      go (inr p) f = let x = passed_there step (slice_get ns i) p in at x.0 x.1 f (one_true _ _ x.2)
+
+  earlier : (o : Option ℕ) (i k : ℕ) → Before o i → i ≤ k → Before o k
+  earlier None i k b l = tt
+  earlier (Some x) i k b l = omega arith
+
+  reach_test : {o : Option ℕ} → Reaches ns j o → (k : ℕ) → Before o k → reaches k ns j o ≡ true
+  reach_test reach_here zero b = absurd (omega arith)
+  reach_test reach_here (suc k) b = or_left (eqb j j) _ (eq-eqb j j refl)
+  reach_test (reach_below e f r) zero b = absurd (omega arith)
+  reach_test (reach_below {i = i} {n = n} e f r) (suc k) b =
+      let t = reach_test r k (earlier (first_child n.kind) i k f (omega arith)) in
+      or_right (eqb i j) _ (ap (passes (λ (m : Node). (goes_before i (first_child m.kind) && reaches k ns j (first_child m.kind)) || (goes_before i m.next && reaches k ns j m.next))) e
+      ∙ or_left _ _ (and_from _ _ (before_test i (first_child n.kind) f) t))
+  reach_test (reach_next e f r) zero b = absurd (omega arith)
+  reach_test (reach_next {i = i} {n = n} e f r) (suc k) b =
+      let t = reach_test r k (earlier n.next i k f (omega arith)) in
+      or_right (eqb i j) _ (ap (passes (λ (m : Node). (goes_before i (first_child m.kind) && reaches k ns j (first_child m.kind)) || (goes_before i m.next && reaches k ns j m.next))) e
+      ∙ or_right _ _ (and_from _ _ (before_test i n.next f) t))
+
+-- nodes on trees
+module _ (t : Trees) where
+  abbrev ns : List Node
+  ns = nodes_in t
+
+  -- at the root that stands at a place, or below it
+  abbrev Held : ℕ → ℕ → Type 0
+  Held j i = (n : Node) × (slice_get ns i ≡ Some n) × Before (first_child n.kind) i × ((i ≡ j) ⊎ Reaches ns j (first_child n.kind))
+
+  in_true : (j i : ℕ) → is_in ns j i ≡ true → Held j i
+  in_true j i e =
+      let x = passed_there _ (slice_get ns i) e in
+      let a = and_parts (goes_before i (first_child x.0.kind)) _ x.2 in
+      (x.0, x.1, before_true i (first_child x.0.kind) a.0, go x.0 (one_true (eqb i j) (reaches (length ns) ns j (first_child x.0.kind)) a.1))
+    where
+      go : (n : Node) → (eqb i j ≡ true) ⊎ (reaches (length ns) ns j (first_child n.kind) ≡ true) → (i ≡ j) ⊎ Reaches ns j (first_child n.kind)
+      go n (inl p) = inl (eqb-true i j p)
+      go n (inr p) = inr (reach_true ns j (length ns) (first_child n.kind) p)
+
+  in_test : (j i : ℕ) → Held j i → is_in ns j i ≡ true
+  in_test j i h =
+      ap (passes (λ (m : Node). goes_before i (first_child m.kind) && ((i == j) || reaches (length ns) ns j (first_child m.kind)))) h.1
+      ∙ and_from _ _ (before_test i (first_child h.0.kind) h.2) (go h.0 h.2 h.3)
+    where
+      go : (n : Node) → Before (first_child n.kind) i → (i ≡ j) ⊎ Reaches ns j (first_child n.kind) → (eqb i j || reaches (length ns) ns j (first_child n.kind)) ≡ true
+      go n b (inl p) = or_left (eqb i j) _ (eq-eqb i j p)
+      go n b (inr p) = or_right (eqb i j) _ (reach_test ns j p (length ns) (earlier ns j (first_child n.kind) i (length ns) b (let l = nth_below ns i h.1 in omega arith)))
+
+  on_true : (j : ℕ) (os : List (Option ℕ)) → is_on ns os j ≡ true → (f : ℕ) × (i : ℕ) × (slice_get os f ≡ Some (Some i)) × Held j i
+  on_true j [] e = absurd (zero_one (cc))
+  on_true j (o ∷ os) e = go (one_true (passes (is_in ns j) o) (is_on ns os j) e) (on_true j os)
+    where
+      go : (passes (is_in ns j) o ≡ true) ⊎ (is_on ns os j ≡ true) → (is_on ns os j ≡ true → (f : ℕ) × (i : ℕ) × (slice_get os f ≡ Some (Some i)) × Held j i)
+          → (f : ℕ) × (i : ℕ) × (slice_get (o ∷ os) f ≡ Some (Some i)) × Held j i
+      go (inl p) f = let x = passed_there (is_in ns j) o p in (0, x.0, ap Some x.1, in_true j x.0 x.2)
+      go (inr p) f = let x = f p in (suc x.0, x.1, x.2, x.3)
+
+  on_test : (j : ℕ) (os : List (Option ℕ)) (f i : ℕ) → slice_get os f ≡ Some (Some i) → Held j i → is_on ns os j ≡ true
+  on_test j [] f i e h = absurd (zero_one (cc))
+  on_test j (o ∷ os) zero i e h = let z : o ≡ Some i = cc in or_left (passes (is_in ns j) o) _ (ap (passes (is_in ns j)) z ∙ in_test j i h)
+  on_test j (o ∷ os) (suc f) i e h = or_right (passes (is_in ns j) o) _ (on_test j os f i e h)
+
+  all_on_true : (k : ℕ) → all_on ns (roots_in t) k ≡ true → (j : ℕ) → j < k → OnTree t j
+  all_on_true zero e j l = absurd (omega arith)
+  all_on_true (suc k) e j l = let a = and_parts (is_on ns (roots_in t) k) (all_on ns (roots_in t) k) e in go a.0 (cases_lt j k) (all_on_true k a.1 j)
+    where
+      go : is_on ns (roots_in t) k ≡ true → (j < k) ⊎ (k ≤ j) → (j < k → OnTree t j) → OnTree t j
+      go p (inl m) f = f m
+      go p (inr m) f =
+          let z : k ≡ j = omega arith in
+          let x = on_true k (roots_in t) p in
+          subst (OnTree t) z (record { owner = x.0; place = x.1; root = x.3.0; there = x.2; stands = x.3.1; earlier = x.3.2; held = x.3.3 })
+
+  all_on_test : (k : ℕ) → ((j : ℕ) → j < k → OnTree t j) → all_on ns (roots_in t) k ≡ true
+  all_on_test zero h = refl
+  all_on_test (suc k) h =
+      let x = h k (omega arith) in
+      and_from (is_on ns (roots_in t) k) (all_on ns (roots_in t) k) (on_test k (roots_in t) x.owner x.place x.there (x.root, x.stands, x.earlier, x.held)) (all_on_test k (λ j l. h j (omega arith)))
+
+-- a rule set: its test and what it tells
+module _ (d : Draft) (t : Trees) where
+  abbrev B : Book
+  B = book_of (seen d)
+
+  abbrev rooted : Bool
+  rooted = all_rooted B t 0 (seen d).signature.symbols
+
+  abbrev others : Bool
+  others = only_functions (seen d).signature 0 (roots_in t)
+
+  pub set_tested : awaited (seen d) ≡ None → AllRooted B t → OthersRootless B t → AllOnTrees t → NodesOnly B t → set_sound (seen d) t ≡ true
+  set_tested e h o v m =
+      and_from (is_none (awaited (seen d))) (rooted && (others && (nodes_on t && is_counted B t))) (ap is_none e)
+      (and_from rooted (others && (nodes_on t && is_counted B t))
+      (all_tested B t 0 (seen d).signature.symbols (λ k y i r. let z : k ≡ 0 + k = omega arith in subst (Rooted B t) z (h k (stands_function d k (y, i, r)))))
+      (and_from others (nodes_on t && is_counted B t)
+      (only_tested (seen d).signature 0 (roots_in t) (λ k n. o k (λ s. n (let z : k ≡ 0 + k = omega arith in subst (IsFunction (seen d).signature) z (function_stands d k s)))))
+      (and_from (nodes_on t) (is_counted B t) (all_on_test t (length (nodes_in t)) v) (eq-eqb (length (nodes_in t)) (trees_size B) m))))
+
+  pub set_tells : set_sound (seen d) t ≡ true → SoundSet (seen d) t
+  set_tells e =
+      let a = and_parts (is_none (awaited (seen d))) (rooted && (others && (nodes_on t && is_counted B t))) e in
+      let b = and_parts rooted (others && (nodes_on t && is_counted B t)) a.1 in
+      let c = and_parts others (nodes_on t && is_counted B t) b.1 in
+      let n = and_parts (nodes_on t) (is_counted B t) c.1 in
+      record {
+        contents = sound_contents d;
+        counted = counted_contents d;
+        rules = book_rules d;
+        whole = none_there (awaited (seen d)) a.0;
+        rooted = λ f h. let x = function_stands d f h in let z : 0 + f ≡ f = omega arith in subst (Rooted B t) z (all_from_test B t 0 (seen d).signature.symbols b.0 f x.0 x.1 x.2);
+        rootless = λ k n. only_tells (seen d).signature 0 (roots_in t) c.0 k (λ f. n (stands_function d k (let z : 0 + k ≡ k = omega arith in subst (IsFunction (seen d).signature) z f)));
+        on_trees = all_on_true t (length (nodes_in t)) n.0;
+        nodes = eqb-true (length (nodes_in t)) (trees_size B) n.1;
+      }
 
 -- a book's
 pub book_tells : (d : Draft) → is_accepted (seen d) ≡ true → check_fault (seen d) ≡ None

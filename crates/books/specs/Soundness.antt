@@ -1,12 +1,12 @@
 -- What every rule set and every book keeps, as tests. Assumes nothing.
-use Rattle.std.specs.Prelude.{ℕ, suc, Bool, true, false, ◌&&◌, List, [], ◌∷◌, Some, None, Option, ◌==◌, nat_lt}
-use Rattle.std.specs.List.{slice_get}
+use Rattle.std.specs.Prelude.{ℕ, zero, suc, Bool, true, false, ◌&&◌, ◌||◌, List, [], ◌∷◌, length, Some, None, Option, ◌==◌, nat_lt, option_map}
+use Rattle.std.specs.List.{slice_get, list_any}
 use Rattle.std.specs.Str.{bytes_eq}
 use Rattle.terms.specs.declared.signature.Role.{Role}
 use Rattle.terms.specs.declared.signature.Role.TheVariants.{Constructor, Function, Operation}
 use Rattle.terms.specs.Terms.{symbol, Term, var, con, fun, Terms, nil, ◌▸◌}
 use Rattle.terms.specs.Options.{onward, passes}
-use Rattle.terms.specs.Signatures.{Declaration}
+use Rattle.terms.specs.Signatures.{Declaration, Signature}
 use Rattle.rewriting.specs.Rules.{Rule, Book}
 use Rattle.rewriting.specs.Trees.{Node as Tree, at_rule, branch, Nodes as Children, no_child, child}
 use Rattle.rewriting.specs.FixedTree.{same_head, same_fn, fixed_tree}
@@ -17,9 +17,9 @@ use Rattle.trees.specs.declared.node.Kind.{Kind}
 use Rattle.trees.specs.declared.node.Kind.TheVariants.{Rule as RuleNode, Branch}
 use Rattle.trees.specs.declared.trees.Trees.{Trees}
 use Rattle.trees.specs.Views.{steps_of}
-use Rattle.trees.specs.Checks.{check_fault}
+use Rattle.trees.specs.Checks.{function_role, check_fault}
 use Rattle.trees.specs.Nodes.{first_child}
-use Rattle.trees.specs.Standing.{nodes_in, roots_in}
+use Rattle.trees.specs.Standing.{nodes_in, roots_in, trees_size}
 
 -- whether two terms are the same
 abbrev mutual
@@ -85,14 +85,48 @@ abbrev pub all_rooted : Book → Trees → ℕ → List Declaration → Bool
 all_rooted B t s [] = true
 all_rooted B t s (d ∷ ds) = rooted_as B t s d.role && all_rooted B t (suc s) ds
 
+-- whether every symbol that has a root is declared as a function, from s on
+abbrev pub only_functions : Signature → ℕ → List (Option ℕ) → Bool
+only_functions S s [] = true
+only_functions S s (None ∷ os) = only_functions S (suc s) os
+only_functions S s (Some i ∷ os) = function_role (option_map (λ d. d.role) (slice_get S.symbols s)) && only_functions S (suc s) os
+
 -- whether nothing is there
 abbrev pub is_none : {A : Type 0} → Option A → Bool
 is_none None = true
 is_none (Some a) = false
 
--- a rule set: no rule is awaited, and each function has its fixed tree
+-- whether links reach the place j, along children and below them; so many links at most
+abbrev pub reaches : ℕ → List Node → ℕ → Option ℕ → Bool
+reaches zero ns j o = false
+reaches (suc k) ns j None = false
+reaches (suc k) ns j (Some i) =
+    (i == j) || passes (λ n. (goes_before i (first_child n.kind) && reaches k ns j (first_child n.kind)) || (goes_before i n.next && reaches k ns j n.next)) (slice_get ns i)
+
+-- whether the place j is that of a root or below it
+abbrev pub is_in : List Node → ℕ → ℕ → Bool
+is_in ns j i = passes (λ n. goes_before i (first_child n.kind) && ((i == j) || reaches (length ns) ns j (first_child n.kind))) (slice_get ns i)
+
+-- whether it is so for one of the roots
+abbrev pub is_on : List Node → List (Option ℕ) → ℕ → Bool
+is_on ns os j = list_any (passes (is_in ns j)) os
+
+-- whether it is so for each place below k
+abbrev pub all_on : List Node → List (Option ℕ) → ℕ → Bool
+all_on ns os zero = true
+all_on ns os (suc k) = is_on ns os k && all_on ns os k
+
+-- whether each node is on a tree
+abbrev pub nodes_on : Trees → Bool
+nodes_on t = all_on (nodes_in t) (roots_in t) (length (nodes_in t))
+
+-- whether as many nodes stand as the fixed trees have together
+abbrev pub is_counted : Book → Trees → Bool
+is_counted B t = length (nodes_in t) == trees_size B
+
+-- a rule set: no rule is awaited, each function has its fixed tree, no other symbol has a root, each node is on a tree, and the nodes are counted
 abbrev pub set_sound : Draft → Trees → Bool
-set_sound D t = is_none (awaited D) && all_rooted (book_of D) t 0 D.signature.symbols
+set_sound D t = is_none (awaited D) && (all_rooted (book_of D) t 0 D.signature.symbols && (only_functions D.signature 0 (roots_in t) && (nodes_on t && is_counted (book_of D) t)))
 
 -- a book: Check finds no fault
 abbrev pub is_accepted : Draft → Bool

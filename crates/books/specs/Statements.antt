@@ -11,7 +11,7 @@ use Rattle.drafts.specs.Books.{book_of, CountedContents, BookRules}
 use Rattle.trees.specs.declared.fault.CheckFault.{CheckFault}
 use Rattle.trees.specs.declared.fault.CheckFault.TheVariants.{RulesMissing, NoTree, Incomplete}
 use Rattle.trees.specs.declared.trees.Trees.{Trees}
-use Rattle.trees.specs.Standing.{AllRooted}
+use Rattle.trees.specs.Standing.{AllRooted, OthersRootless, AllOnTrees, NodesOnly}
 
 -- the function f is completely defined: it has a complete definitional tree
 abbrev pub CompletelyDefined : Book → ℕ → Type 0
@@ -31,13 +31,16 @@ pub record ExactCheck (D : Draft) (o : Option CheckFault) : Type 0 where
   pub no_tree : (f : ℕ) → (o ≡ Some (NoTree f)) ↔ ((awaited D ≡ None) × FirstAtFault (book_of D) f × ((n : Node) → TreeFor (book_of D) f n → ⊥))
   pub incomplete : (f : ℕ) → (o ≡ Some (Incomplete f)) ↔ ((awaited D ≡ None) × FirstAtFault (book_of D) f × ((n : Node) × TreeFor (book_of D) f n))
 
--- every rule set: sort-correct and left-linear, no rule is missing, and at the root of each function stands its fixed tree
+-- every rule set: sort-correct and left-linear, no rule is missing, at the root of each function stands its fixed tree, no other symbol has a root, each node is on one of these trees, and as many nodes stand as these trees have
 pub record SoundSet (D : Draft) (t : Trees) : Type 0 where
   pub contents : SoundContents D.signature
   pub counted : CountedContents D
   pub rules : BookRules D
   pub whole : awaited D ≡ None
   pub rooted : AllRooted (book_of D) t
+  pub rootless : OthersRootless (book_of D) t
+  pub on_trees : AllOnTrees t
+  pub nodes : NodesOnly (book_of D) t
 
 -- every book: and each function has a complete tree
 pub record SoundBook (D : Draft) (t : Trees) : Type 0 where

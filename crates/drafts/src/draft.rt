@@ -34,3 +34,10 @@ pub struct Draft {
     ghost sound: { is_sound (drafted signature promised (items letters) (items rules)) ≡ true },
     ghost operations: { three_operations (view signature) ≡ true },
 }
+
+// What a draft declares: its sorts and symbols, and for each symbol how many rules it promises.
+#[derive(Clone, Copy)]
+pub struct Declared<'a> {
+    pub signature: &'a Signature,
+    pub promised: &'a [u8],
+}

@@ -3,7 +3,7 @@
 
 #[cfg(test)]
 mod tests {
-    use drafts::draft::Draft;
+    use drafts::draft::{Draft, LONGEST_SIDE};
     use drafts::fault::{ContentFault, RuleFault, Side};
     use std::test::Fail;
     use terms::letter::{PLUS, SYMBOLS, TRUE, VARIABLES};
@@ -20,6 +20,13 @@ mod tests {
     const X: u64 = VARIABLES;
 
     const Y: u64 = VARIABLES + 1;
+
+    const NUMBER: u64 = 0;
+
+    const LEVEL: u64 = 2;
+
+    // The next sort after level, which no draft of levels declares.
+    const NO_SORT: u64 = 3;
 
     // The number of a refusal of contents; 0 where nothing was refused.
     fn content(answer: Result<u8, ContentFault>) -> u8 {
@@ -86,6 +93,85 @@ mod tests {
         assert_eq!(rt; content(draft.declare_function(b"b", &[], 0, 93)), 7);
         assert_eq!(rt; content(draft.declare_function(b"b", &[], 0, 92)), 0);
         assert_eq!(rt; content(draft.declare_function(b"c", &[], 0, 1)), 7);
+        Ok(())
+    }
+
+    // The numbers of the refusals of a symbol: as a constructor, and as a function of one rule.
+    fn symbol(draft: &mut Draft, name: &[u8], args: &[u64], sort: u64) -> (u8, u8) {
+        let constructor = content(draft.declare_constructor(name, args, sort));
+        let function = content(draft.declare_function(name, args, sort, 1));
+        (constructor, function)
+    }
+
+    #[test]
+    fn constructors_and_functions_are_refused_alike(rt: HostRuntime) -> Result<(), Fail> {
+        let mut draft = levels()?;
+        assert_eq!(rt; symbol(&mut draft, b"", &[], LEVEL), (2, 2));
+        assert_eq!(rt; symbol(&mut draft, b"Top", &[], LEVEL), (2, 2));
+        assert_eq!(rt; symbol(&mut draft, b"level", &[], LEVEL), (3, 3));
+        assert_eq!(rt; symbol(&mut draft, b"up", &[], LEVEL), (3, 3));
+        assert_eq!(rt; symbol(&mut draft, b"rules", &[], LEVEL), (3, 3));
+        assert_eq!(rt; symbol(&mut draft, b"a", &[NUMBER, NO_SORT], LEVEL), (4, 4));
+        assert_eq!(rt; symbol(&mut draft, b"a", &[], NO_SORT), (4, 4));
+        assert_eq!(rt; symbol(&mut draft, b"a", &[], u64::MAX), (4, 4));
+        assert_eq!(rt;
+            symbol(&mut draft, b"a", &[NUMBER, 0, 0, 0, 0, NO_SORT], LEVEL),
+            (4, 4)
+        );
+        assert_eq!(rt; symbol(&mut draft, b"a", &[NUMBER; 5], LEVEL), (5, 5));
+        assert_eq!(rt; rule(draft.add_rule(&[MEET, X, Y], &[X])), None);
+        assert_eq!(rt; symbol(&mut draft, b"a", &[], LEVEL), (1, 1));
+        Ok(())
+    }
+
+    #[test]
+    fn four_arguments_fit(rt: HostRuntime) -> Result<(), Fail> {
+        let mut draft = levels()?;
+        assert_eq!(rt;
+            content(draft.declare_constructor(b"a", &[NUMBER; 4], LEVEL)),
+            0
+        );
+        assert_eq!(rt;
+            content(draft.declare_function(b"b", &[LEVEL; 4], NUMBER, 1)),
+            0
+        );
+        assert_eq!(rt; content(draft.declare_constructor(b"c", &[], NUMBER)), 6);
+        Ok(())
+    }
+
+    #[test]
+    fn lengths_are_refused_on_both_sides(rt: HostRuntime) -> Result<(), Fail> {
+        let mut draft = levels()?;
+        let long = [X; LONGEST_SIDE + 1];
+        let left = Some((12, Side::Left, 0));
+        let right = Some((12, Side::Right, 0));
+        assert_eq!(rt; rule(draft.add_rule(&[], &[X])), left);
+        assert_eq!(rt; rule(draft.add_rule(&long, &[X])), left);
+        assert_eq!(rt; rule(draft.add_rule(&[], &[])), left);
+        assert_eq!(rt; rule(draft.add_rule(&[MEET, X, Y], &[])), right);
+        assert_eq!(rt; rule(draft.add_rule(&[MEET, X, Y], &long)), right);
+        Ok(())
+    }
+
+    #[test]
+    fn parts_are_refused_on_both_sides(rt: HostRuntime) -> Result<(), Fail> {
+        let mut draft = levels()?;
+        assert_eq!(rt;
+            rule(draft.add_rule(&[MEET, X], &[X])),
+            Some((15, Side::Left, 2))
+        );
+        assert_eq!(rt;
+            rule(draft.add_rule(&[MEET, X, Y, X], &[X])),
+            Some((15, Side::Left, 3))
+        );
+        assert_eq!(rt;
+            rule(draft.add_rule(&[MEET, X, Y], &[MEET, X])),
+            Some((15, Side::Right, 2))
+        );
+        assert_eq!(rt;
+            rule(draft.add_rule(&[MEET, X, Y], &[X, Y])),
+            Some((15, Side::Right, 1))
+        );
         Ok(())
     }
 

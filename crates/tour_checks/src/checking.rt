@@ -158,7 +158,7 @@ fn tell(rt: &HostRuntime, name: &str, draft: &Draft) -> io::Result<()> {
             // By its number and the name of the function; the fault prints itself by numbers alone.
             let (number, symbol) = fault.numbered();
             let function = Symbol {
-                signature: draft.signature(),
+                signature: draft.declared().signature,
                 symbol,
                 indent: 0,
             };

@@ -29,7 +29,7 @@ use Rattle.trees.specs.Views.{steps_of}
 use Rattle.trees.specs.Rows.{chosen, is_head, heads_at, new_head, new_heads, there, IsPlace}
 use Rattle.trees.specs.Sharing.{IsShared}
 use Rattle.trees.specs.Nodes.{Is, Leads}
-use Rattle.trees.specs.Growth.{nodes_of, IsGrown, AtStage, cost, Added}
+use Rattle.trees.specs.Growth.{nodes_of, IsGrown, NodesAdded, AllBelow, AtStage, cost, Added}
 use Rattle.trees.proofs.Drafted.{draft_short}
 use Rattle.trees.proofs.Scanned.{covers_same}
 use Rattle.trees.proofs.Seeking.{linked_leads}
@@ -37,7 +37,7 @@ use Rattle.trees.proofs.LeftSides.{draft_cells}
 use Rattle.trees.proofs.Chosen.{chosen_kept, constructors_new}
 use Rattle.trees.proofs.Told.{place_none, shared_some}
 use Rattle.trees.proofs.Growths.{under, GrownTo, grown_none, grown_skip, grown_more, symbol_met, room_left, due}
-use Rattle.trees.proofs.Stages.{fuel_left, open_room, child_stage, branch_paid, shared_short, child_missing, branch_grown, children_added, child_added}
+use Rattle.trees.proofs.Stages.{fuel_left, open_room, child_stage, branch_paid, shared_short, child_missing, branch_grown, branch_counted, children_added, child_added}
 
 -- a symbol takes at most four arguments
 pub few_arguments : (g : Table) (s : ℕ) → length (head_args (view g) (symbol s)) ≤ 4
@@ -116,6 +116,9 @@ module _ {d : Draft} {ps : List (List ℕ)} {m : List Bool} {n : ℕ} {s : Share
       → IsGrown B.signature B.rules (nodes_of c) (grow B.signature n ps rs) (Some (record { kind = Branch s.path first; complete = covered && complete }))
   branch_ends {a} {c} {first} {complete} covered e h = branch_grown B ps m n p s.heads a c s.path first complete covered e branch_fuel b.none b.shared refl all_new h
 
+  pub branch_counts : {a c : Store} {first : Option ℕ} {complete : Bool} → GrownTo B ps m n p s.heads 0 a c first complete → NodesAdded a c (grow B.signature n ps rs)
+  branch_counts {a} {c} {first} {complete} h = branch_counted B ps m n p s.heads a c first complete branch_fuel b.none b.shared all_new h
+
   -- what is paid for all children
   pub paid_all : suc (paid_under longest_side (n - 1) p rs (constructors_at p rs)) ≤ cost n rs
   paid_all = branch_paid B (draft_short d) n ps rs b.stage p b.shared
@@ -175,8 +178,8 @@ module _ {d : Draft} {ps : List (List ℕ)} {m : List Bool} {n : ℕ} {s : Share
 
     -- with it there is one child more
     pub new_more : {qs : List (List ℕ)} {ms : List Bool} {a c e g : Store} {first : Option ℕ} {complete : Bool} (k : Grown) (node : Node) (t : Tree) → NewChild d ps m n s x qs ms → GrownTo B ps m n p s.heads i a c first complete
-        → Added c e (cost (n - 1) (chosen ms B.rules)) → grow B.signature (n - 1) qs (chosen ms B.rules) ≡ Some t → Is B.rules (nodes_of e) k.kind t → k.complete ≡ is_complete B.signature t
+        → Added c e (cost (n - 1) (chosen ms B.rules)) → NodesAdded c e (grow B.signature (n - 1) qs (chosen ms B.rules)) → AllBelow c e (Some k) → grow B.signature (n - 1) qs (chosen ms B.rules) ≡ Some t → Is B.rules (nodes_of e) k.kind t → k.complete ≡ is_complete B.signature t
         → nodes_of g ≡ nodes_of e ++ (node ∷ []) → node.symbol ≡ x → node.kind ≡ k.kind → node.next ≡ first
         → GrownTo B ps m n p s.heads (i - 1) a g (Some (length (nodes_of e))) (complete && k.complete)
-    new_more {qs} {ms} {a} {c} {e} {g} {first} {complete} k node t z l w r is told pushed =
-        grown_more B ps m n p s.heads i x a c e g first complete k node t h.after below h.new l (subst (Added c e) z.costs w) (sym z.tree ∙ r) is told pushed
+    new_more {qs} {ms} {a} {c} {e} {g} {first} {complete} k node t z l w many inner r is told pushed =
+        grown_more B ps m n p s.heads i x a c e g first complete k node t h.after below h.new l (subst (Added c e) z.costs w) (subst (NodesAdded c e) r many) inner (sym z.tree ∙ r) is told pushed

@@ -1,8 +1,9 @@
 -- Trees grow node by node.
-use Rattle.std.proofs.Common.{◌≡◌, ℕ, zero, suc, ◌+◌, ◌-◌, ◌<◌, ◌≤◌, Bool, true, false, ◌&&◌, List, [], ◌∷◌, ◌++◌, map, length, get_or, take, drop, Some, None, Option, sym, refl, ap, ◌∙◌, subst, ap₂, append_assoc, append-nil, arith, option_map, filter}
+use Rattle.std.proofs.Common.{◌≡◌, ℕ, zero, suc, ◌+◌, ◌-◌, ◌<◌, ◌≤◌, Bool, true, false, ◌&&◌, ◌⊎◌, List, [], ◌∷◌, ◌++◌, map, length, get_or, take, drop, Some, None, Option, sym, refl, ap, ◌∙◌, subst, ap₂, inl, inr, append_assoc, append-nil, arith, option_map, filter}
 use mathlib.Core.List.Memᴰ
 use mathlib.Core.List.{Memᴰ}
 use Rattle.std.proofs.lemmas.List.{map-append, length-append, take_all, drop_all, take_more, drop_more, take-append-drop}
+use Rattle.std.proofs.lemmas.Bool.{cases_lt}
 use Rattle.terms.specs.Terms.{Head, symbol}
 use Rattle.terms.specs.Options.{onward}
 use Rattle.terms.specs.Signatures.{Signature}
@@ -17,8 +18,8 @@ use Rattle.trees.specs.declared.node.Kind.{Kind}
 use Rattle.trees.specs.declared.grown.Grown.{Grown}
 use Rattle.trees.specs.declared.store.Store.{Store}
 use Rattle.trees.specs.Rows.{chosen, put, new_head, new_heads}
-use Rattle.trees.specs.Nodes.{Before, first_child, Is, is_rule, is_branch, Linked, no_link, link}
-use Rattle.trees.specs.Growth.{nodes_of, cost, Added}
+use Rattle.trees.specs.Nodes.{Before, first_child, Is, is_rule, is_branch, Linked, no_link, link, Reaches, reach_here, reach_below, reach_next}
+use Rattle.trees.specs.Growth.{nodes_of, size, sizes, AllBelow, cost, Added}
 use Rattle.trees.proofs.Places.{nth_below, nth_front, nth_last}
 
 -- a tree in an array of nodes stays where nodes are added
@@ -30,6 +31,26 @@ mutual
   pub linked_still : {rs : List Rule} {ns : List Node} (more : List Node) {o : Option ℕ} {ts : Children} → Linked rs ns o ts → Linked rs (ns ++ more) o ts
   linked_still more no_link = no_link
   linked_still {ns = ns} more (link {i = i} e f b h l) = link (nth_front ns more i e) f b (is_still more h) (linked_still more l)
+
+pub reach_still : {ns : List Node} (more : List Node) {j : ℕ} {o : Option ℕ} → Reaches ns j o → Reaches (ns ++ more) j o
+reach_still more reach_here = reach_here
+reach_still {ns = ns} more (reach_below {i = i} e b r) = reach_below (nth_front ns more i e) b (reach_still more r)
+reach_still {ns = ns} more (reach_next {i = i} e b r) = reach_next (nth_front ns more i e) b (reach_still more r)
+
+-- a node after all, with its first child and the next of its parent: it reaches what these reach
+reach_more : (a : ℕ) (bs cs more : List Node) (node : Node) (kind : Kind) (first : Option ℕ) → cs ≡ bs ++ more → node.kind ≡ kind → node.next ≡ first → Before (first_child kind) (length cs) → Before first (length cs)
+    → ((j : ℕ) → a ≤ j → j < length bs → Reaches bs j first) → ((j : ℕ) → length bs ≤ j → j < length cs → Reaches cs j (first_child kind))
+    → (j : ℕ) → a ≤ j → j < length cs + 1 → Reaches (cs ++ (node ∷ [])) j (Some (length cs))
+reach_more a bs cs more node kind first e k x b d h g j l m = go (cases_lt j (length bs)) (cases_lt j (length cs))
+  where
+    go : (j < length bs) ⊎ (length bs ≤ j) → (j < length cs) ⊎ (length cs ≤ j) → Reaches (cs ++ (node ∷ [])) j (Some (length cs))
+    go (inl p) q =
+        let r : Reaches cs j first = subst (λ (ns : List Node). Reaches ns j first) (sym e) (reach_still more (h j l p)) in
+        reach_next (nth_last cs node) (subst (λ (o : Option ℕ). Before o (length cs)) (sym x) d) (subst (Reaches (cs ++ (node ∷ [])) j) (sym x) (reach_still (node ∷ []) r))
+    go (inr p) (inl q) =
+        reach_below (nth_last cs node) (subst (λ (y : Kind). Before (first_child y) (length cs)) (sym k) b)
+        (subst (λ (y : Kind). Reaches (cs ++ (node ∷ [])) j (first_child y)) (sym k) (reach_still (node ∷ []) (g j p q)))
+    go (inr p) (inr q) = let z : j ≡ length cs = omega arith in subst (λ (y : ℕ). Reaches (cs ++ (node ∷ [])) j (Some y)) z reach_here
 
 -- links go to places that are there
 pub linked_before : {rs : List Rule} {ns : List Node} {o : Option ℕ} {ts : Children} → Linked rs ns o ts → Before o (length ns)
@@ -98,6 +119,8 @@ module _ (S : Signature) where
     pub told : complete ≡ are_complete S subtrees
     pub more : List Node
     pub after : nodes_of b ≡ nodes_of a ++ more
+    pub reached : (j : ℕ) → length (nodes_of a) ≤ j → j < length (nodes_of b) → Reaches (nodes_of b) j first
+    pub counted : length (nodes_of b) ≡ length (nodes_of a) + sizes subtrees
     pub within : length (nodes_of b) + owed ≤ length (nodes_of a) + most
 
   -- no child yet
@@ -110,6 +133,8 @@ module _ (S : Signature) where
     told = refl;
     more = [];
     after = sym (append-nil (nodes_of a));
+    reached = λ j l k. absurd (omega arith);
+    counted = omega arith;
     within = omega arith;
   }
 
@@ -122,10 +147,10 @@ module _ (S : Signature) where
   -- one child more
   pub one_more : (R : List Rule) (tree : Head → Option Tree) (done : List Head) (owed most s due : ℕ) (a b c d : Store) (first : Option ℕ) (complete : Bool) (g : Grown) (node : Node) (t : Tree)
       → SoFar R tree done (owed + due) most a b first complete
-      → Added b c due → tree (symbol s) ≡ Some t → Is R (nodes_of c) g.kind t → g.complete ≡ is_complete S t
+      → Added b c due → length (nodes_of c) + 1 ≡ length (nodes_of b) + size t → AllBelow b c (Some g) → tree (symbol s) ≡ Some t → Is R (nodes_of c) g.kind t → g.complete ≡ is_complete S t
       → nodes_of d ≡ nodes_of c ++ (node ∷ []) → node.symbol ≡ s → node.kind ≡ g.kind → node.next ≡ first
       → SoFar R tree (symbol s ∷ done) owed most a d (Some (length (nodes_of c))) (complete && g.complete)
-  one_more R tree done owed most s due a b c d first complete g node t h z e i k pushed y kind next =
+  one_more R tree done owed most s due a b c d first complete g node t h z many inner e i k pushed y kind next =
       let l = linked_still z.more h.linked in
       let m : Linked R (nodes_of c) first h.subtrees = subst (λ (ns : List Node). Linked R ns first h.subtrees) (sym z.after) l in
       let ns = nodes_of c ++ (node ∷ []) in
@@ -144,6 +169,9 @@ module _ (S : Signature) where
         more = h.more ++ (z.more ++ (node ∷ []));
         after = pushed ∙ ap (λ (vs : List Node). vs ++ (node ∷ [])) (z.after ∙ ap (λ (vs : List Node). vs ++ z.more) h.after)
             ∙ append_assoc (nodes_of a ++ h.more) z.more (node ∷ []) ∙ append_assoc (nodes_of a) h.more (z.more ++ (node ∷ []));
+        reached = λ j v u. subst (λ (vs : List Node). Reaches vs j (Some (length (nodes_of c)))) (sym pushed)
+            (reach_more (length (nodes_of a)) (nodes_of b) (nodes_of c) z.more node g.kind first z.after kind next (is_before i) (linked_before m) h.reached inner j v (omega (arith, one)));
+        counted = (let n = h.counted in omega arith);
         within = omega arith;
       }
 
@@ -223,12 +251,12 @@ module _ (B : Book) (ps : List (List ℕ)) (m : List Bool) (n : ℕ) (p : List �
 
   pub grown_more : (i s : ℕ) (a b c d : Store) (first : Option ℕ) (complete : Bool) (g : Grown) (node : Node) (t : Tree)
       → 0 < i → i ≤ length hs → Some s ≡ new_head (take (i - 1) hs) (get_or hs (i - 1) None) → GrownTo i a b first complete
-      → Added b c (due s) → under B.signature (n - 1) ps left p (symbol s) ≡ Some t → Is B.rules (nodes_of c) g.kind t → g.complete ≡ is_complete B.signature t
+      → Added b c (due s) → length (nodes_of c) + 1 ≡ length (nodes_of b) + size t → AllBelow b c (Some g) → under B.signature (n - 1) ps left p (symbol s) ≡ Some t → Is B.rules (nodes_of c) g.kind t → g.complete ≡ is_complete B.signature t
       → nodes_of d ≡ nodes_of c ++ (node ∷ []) → node.symbol ≡ s → node.kind ≡ g.kind → node.next ≡ first
       → GrownTo (i - 1) a d (Some (length (nodes_of c))) (complete && g.complete)
-  grown_more i s a b c d first complete g node t l k e h added tree is told pushed y kind next =
+  grown_more i s a b c d first complete g node t l k e h added many inner tree is told pushed y kind next =
       let z = heads_step hs i (Some s) l k e in
       subst (λ (xs : List ℕ). SoFar B.signature B.rules (under B.signature (n - 1) ps left p) (map symbol xs) (owed (i - 1)) (paid_under longest_side (n - 1) p left all) a d (Some (length (nodes_of c))) (complete && g.complete)) (sym z.0)
       (one_more B.signature B.rules (under B.signature (n - 1) ps left p) (done i) (owed (i - 1)) (paid_under longest_side (n - 1) p left all) s (due s) a b c d first complete g node t
       (subst (λ (x : ℕ). SoFar B.signature B.rules (under B.signature (n - 1) ps left p) (done i) x (paid_under longest_side (n - 1) p left all) a b first complete) (owed_more i s l k e) h)
-      added tree is told pushed y kind next)
+      added many inner tree is told pushed y kind next)

@@ -1,5 +1,5 @@
 -- Places in lists.
-use Rattle.std.proofs.Common.{◌≡◌, ℕ, zero, suc, ◌<◌, ◌≤◌, List, [], ◌∷◌, ◌++◌, map, length, set, Some, None, refl, arith, option_map}
+use Rattle.std.proofs.Common.{◌≡◌, ℕ, zero, suc, ◌<◌, ◌≤◌, List, [], ◌∷◌, ◌++◌, map, length, set, Some, None, refl, ap, arith, option_map}
 use mathlib.Core.List.{Memᴰ}
 use Rattle.std.specs.List.{slice_get}
 use Rattle.terms.proofs.Letters.{zero_one}
@@ -45,8 +45,9 @@ nth_set_same [] i x h = absurd (omega arith)
 nth_set_same (y ∷ xs) zero x h = refl
 nth_set_same (y ∷ xs) (suc i) x h = nth_set_same xs i x (omega arith)
 
-pub nth_set_before : {A : Type 0} (xs : List A) (i j : ℕ) (x : A) → j < i → slice_get (set xs i x) j ≡ slice_get xs j
-nth_set_before [] i j x h = refl
-nth_set_before (y ∷ xs) zero j x h = absurd (omega arith)
-nth_set_before (y ∷ xs) (suc i) zero x h = refl
-nth_set_before (y ∷ xs) (suc i) (suc j) x h = nth_set_before xs i j x (omega arith)
+pub nth_set_other : {A : Type 0} (xs : List A) (i j : ℕ) (x : A) → (j ≡ i → ⊥) → slice_get (set xs i x) j ≡ slice_get xs j
+nth_set_other [] i j x h = refl
+nth_set_other (y ∷ xs) zero zero x h = absurd (h refl)
+nth_set_other (y ∷ xs) zero (suc j) x h = refl
+nth_set_other (y ∷ xs) (suc i) zero x h = refl
+nth_set_other (y ∷ xs) (suc i) (suc j) x h = nth_set_other xs i j x (λ e. h (ap suc e))

@@ -21,7 +21,7 @@ use Rattle.trees.specs.declared.store.Store.{Store}
 use Rattle.trees.specs.Views.{steps_of}
 use Rattle.trees.specs.Rows.{chosen, new_heads}
 use Rattle.trees.specs.Nodes.{Is, is_rule, is_branch}
-use Rattle.trees.specs.Growth.{nodes_of, IsGrown, AtStage, cost, Added}
+use Rattle.trees.specs.Growth.{nodes_of, IsGrown, NodesAdded, AllBelow, AtStage, cost, Added}
 use Rattle.trees.proofs.Growths.{under, grows_rule, grows_branch, children_none, GrownTo, due}
 
 module _ (B : Book) (short : (f : ℕ) → NoLonger B f longest_side) (n : ℕ) (ps : List (List ℕ)) (rs : List Rule) (stage : AtStage B n ps rs) where
@@ -69,7 +69,19 @@ rule_grown S R ns n ps rs r k l e f =
     let g : Grown = record { kind = RuleNode k; complete = true } in
     subst (λ (o : Option Tree). IsGrown S R ns o (Some g)) (sym (grows_rule S n ps rs r l e)) (g, refl, is_rule f, refl)
 
+pub rule_counted : (S : Signature) (n : ℕ) (ps : List (List ℕ)) (rs : List Rule) (r : Rule) (a : Store) → 0 < n → sole_open ps rs ≡ Some r → NodesAdded a a (grow S n ps rs)
+rule_counted S n ps rs r a l e = subst (NodesAdded a a) (sym (grows_rule S n ps rs r l e)) refl
+
+pub rule_below : (a : Store) (k : ℕ) → AllBelow a a (Some (record { kind = RuleNode k; complete = true }))
+rule_below a k j l m = absurd (omega arith)
+
+pub none_below : (a b : Store) (r : Option Grown) → r ≡ None → AllBelow a b r
+none_below a b r e = subst (AllBelow a b) (sym e) tt
+
 -- there is no tree
+pub none_counted : (a b : Store) (o : Option Tree) → o ≡ None → NodesAdded a b o
+none_counted a b o e = subst (NodesAdded a b) (sym e) tt
+
 pub none_grown : (S : Signature) (R : List Rule) (ns : List Node) (o : Option Tree) (r : Option Grown) → o ≡ None → r ≡ None → IsGrown S R ns o r
 none_grown S R ns o r e f = subst (λ (x : Option Tree). IsGrown S R ns x r) (sym e) f
 
@@ -95,6 +107,14 @@ module _ (B : Book) (ps : List (List ℕ)) (m : List Bool) (n : ℕ) (p : List �
       let heads-are : heads h.subtrees ≡ constructors_at p left = children_heads S (under S (n - 1) ps left p) (constructors_at p left) h.subtrees all in
       subst (λ (o : Option Tree). IsGrown S B.rules (nodes_of b) o (Some g)) (sym tree)
       (g, refl, is, ap₂ ◌&&◌ (c ∙ ap (covers S) (sym heads-are)) h.told)
+
+  pub branch_counted : (a b : Store) (first : Option ℕ) (complete : Bool) → 0 < n → sole_open ps left ≡ None → first_shared ps left ≡ Some p
+      → constructors_at p left ≡ map symbol (new_heads [] hs) → GrownTo B ps m n p hs 0 a b first complete → NodesAdded a b (grow B.signature n ps left)
+  branch_counted a b first complete l e f i h =
+      let S = B.signature in
+      let all : children (under S (n - 1) ps left p) (constructors_at p left) ≡ Some h.subtrees = ap (children (under S (n - 1) ps left p)) i ∙ h.built in
+      let tree : grow S n ps left ≡ Some (branch p h.subtrees) = grows_branch S n ps left p l e f ∙ ap (option_map (branch p)) all in
+      subst (NodesAdded a b) (sym tree) (let k = h.counted in omega arith)
 
   -- the nodes that were added, up to a child's or to the last
   pub children_added : (i : ℕ) (a b : Store) (first : Option ℕ) (complete : Bool) (most : ℕ) → suc (paid_under longest_side (n - 1) p left (constructors_at p left)) ≤ most

@@ -34,6 +34,12 @@ mutual
     link : {i : ℕ} {n : Node} {t : Tree} {ts : Children} → slice_get ns i ≡ Some n → Before (first_child n.kind) i → Before n.next i → Is rs ns n.kind t → Linked rs ns n.next ts
         → Linked rs ns (Some i) (child (symbol n.symbol) t ts)
 
+-- links reach the place j, along children and below them
+pub data Reaches (ns : List Node) (j : ℕ) : Option ℕ → Type 0 where
+  reach_here : Reaches ns j (Some j)
+  reach_below : {i : ℕ} {n : Node} → slice_get ns i ≡ Some n → Before (first_child n.kind) i → Reaches ns j (first_child n.kind) → Reaches ns j (Some i)
+  reach_next : {i : ℕ} {n : Node} → slice_get ns i ≡ Some n → Before n.next i → Reaches ns j n.next → Reaches ns j (Some i)
+
 -- the child for a constructor's symbol
 abbrev pub child_for : ℕ → Children → Option Tree
 child_for s no_child = None

@@ -1,8 +1,10 @@
 -- What the trees of a draft are.
-use Rattle.std.specs.Prelude.{◌≡◌, ℕ, suc, ◌+◌, ◌<◌, ◌≤◌, List, length, Some, None, Ok, Err, Option, Result, nat_le, filter}
+use Rattle.std.specs.Prelude.{◌≡◌, ℕ, suc, ◌+◌, ◌<◌, ◌≤◌, ◌⊎◌, List, [], ◌∷◌, ◌++◌, length, Some, None, Ok, Err, Option, Result, nat_le, filter}
 use Rattle.std.specs.List.{slice_get}
-use Rattle.terms.specs.declared.signature.Role.TheVariants.{Function}
+use Rattle.terms.specs.declared.signature.Role.{Role}
+use Rattle.terms.specs.declared.signature.Role.TheVariants.{Constructor, Function, Operation}
 use Rattle.terms.specs.Terms.{own}
+use Rattle.terms.specs.Options.{onward}
 use Rattle.terms.specs.Signatures.{Declaration, Signature}
 use Rattle.terms.specs.Roots.{call, Stands}
 use Rattle.rewriting.specs.Rules.{Book}
@@ -11,8 +13,8 @@ use Rattle.rewriting.specs.FixedTree.{fixed_tree}
 use Rattle.drafts.specs.Drafts.{longest_side}
 use Rattle.trees.specs.declared.node.Node.{Node}
 use Rattle.trees.specs.declared.trees.Trees.{Trees}
-use Rattle.trees.specs.Nodes.{Before, first_child, Is}
-use Rattle.trees.specs.Growth.{nodes_of, cost}
+use Rattle.trees.specs.Nodes.{Before, first_child, Is, Reaches}
+use Rattle.trees.specs.Growth.{nodes_of, size, cost}
 
 -- the nodes, and for each function the place of its root
 abbrev pub nodes_in : Trees → List Node
@@ -46,12 +48,66 @@ pub record Rooted (B : Book) (t : Trees) (f : ℕ) : Type 0 where
 abbrev pub AllRooted : Book → Trees → Type 0
 AllRooted B t = (f : ℕ) → Stands B.signature (call (own f)) → Rooted B t f
 
+-- a symbol has no root
+abbrev pub NoRoot : Trees → ℕ → Type 0
+NoRoot t s = onward (slice_get (roots_in t) s) (λ o. o) ≡ None
+
+-- so for every symbol that is no declared function
+abbrev pub OthersRootless : Book → Trees → Type 0
+OthersRootless B t = (s : ℕ) → (Stands B.signature (call (own s)) → ⊥) → NoRoot t s
+
+-- the node at a place is on a tree: at the root of some symbol or below
+pub record OnTree (t : Trees) (j : ℕ) : Type 0 where
+  pub owner : ℕ
+  pub place : ℕ
+  pub root : Node
+  pub there : slice_get (roots_in t) owner ≡ Some (Some place)
+  pub stands : slice_get (nodes_in t) place ≡ Some root
+  pub earlier : Before (first_child root.kind) place
+  pub held : (place ≡ j) ⊎ Reaches (nodes_in t) j (first_child root.kind)
+
+-- so for every node
+abbrev pub AllOnTrees : Trees → Type 0
+AllOnTrees t = (j : ℕ) → j < length (nodes_in t) → OnTree t j
+
+-- how many nodes the tree of a function has
+abbrev pub fixed_size : Option Tree → ℕ
+fixed_size None = 0
+fixed_size (Some t) = size t
+
+-- of a symbol in a role; one that is no function has none
+abbrev pub size_as : Book → ℕ → Role → ℕ
+size_as B s Constructor = 0
+size_as B s Function = fixed_size (fixed_tree B s)
+size_as B s Operation = 0
+
+-- of the symbol s, if it is declared
+abbrev pub size_of : Book → ℕ → Option Declaration → ℕ
+size_of B s None = 0
+size_of B s (Some d) = size_as B s d.role
+
+-- of all symbols from s on together
+abbrev pub sizes_from : Book → ℕ → List Declaration → ℕ
+sizes_from B s [] = 0
+sizes_from B s (d ∷ ds) = size_as B s d.role + sizes_from B (suc s) ds
+
+abbrev pub trees_size : Book → ℕ
+trees_size B = sizes_from B 0 B.signature.symbols
+
+-- as many nodes stand as the fixed trees of the declared functions have together
+abbrev pub NodesOnly : Book → Trees → Type 0
+NodesOnly B t = length (nodes_in t) ≡ trees_size B
+
 -- how many nodes the trees of the symbols from s on take at most
 abbrev pub owed : Book → ℕ → ℕ
 owed B s = cost longest_side (filter (λ r. nat_le s r.function) B.rules)
 
--- the tree of the symbol s was added, if it is a function: the trees before it stay, and room is left for those after it
+-- the tree of the symbol s was added, if it is a function: the trees before it stay, the roots of all other symbols are as they were, only its nodes are added, each on its tree, and room is left for those after it
 pub record TreeAdded (B : Book) (s : ℕ) (a b : Trees) : Type 0 where
   pub before : (f : ℕ) → f < s → Rooted B a f → Rooted B b f
   pub here : IsFunction B.signature s → Rooted B b s
+  pub others : (f : ℕ) → ((f ≡ s) × IsFunction B.signature f → ⊥) → slice_get (roots_in b) f ≡ slice_get (roots_in a) f
+  pub still : (more : List Node) × (nodes_in b ≡ nodes_in a ++ more)
+  pub on_trees : (j : ℕ) → length (nodes_in a) ≤ j → j < length (nodes_in b) → OnTree b j
+  pub counted : length (nodes_in b) ≡ length (nodes_in a) + size_of B s (slice_get B.signature.symbols s)
   pub within : length (nodes_in b) + owed B (suc s) ≤ length (nodes_in a) + owed B s

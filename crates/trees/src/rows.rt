@@ -23,7 +23,7 @@ use words::parts::part;
 fn letter_at(draft: &Draft, rule: usize, path: &Path) -> Option<u64>
     ensures { result ≡ onward (option_map (λ q. q.left) (slice_get (seen draft.now).rules rule)) (letter_in (seen draft.now).signature (steps_of path.now)) }
 {
-    letter_in(draft.signature(), draft.left(rule)?, path)
+    letter_in(draft.declared().signature, draft.left(rule)?, path)
 }
 
 // The letter that a word has at a position.
@@ -48,7 +48,7 @@ fn constructor_symbol(signature: &Signature, letter: u64) -> Option<u8>
 pub(crate) fn symbol_at(draft: &Draft, rule: usize, path: &Path) -> Option<u8>
     ensures { result ≡ onward (slice_get (book_of (seen draft.now)).rules rule) (symbol_at (steps_of path.now)) }
 {
-    constructor_symbol(draft.signature(), letter_at(draft, rule, path)?)
+    constructor_symbol(draft.declared().signature, letter_at(draft, rule, path)?)
 }
 
 // Whether a rule's left side has a variable at a position.

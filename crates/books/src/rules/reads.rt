@@ -19,7 +19,7 @@ impl RuleSet {
         ensures value { view result ≡ (set_held self.now).signature }
         ensures sound { SoundSet (set_held self.now) (set_trees self.now) }
     {
-        *self.draft.signature()
+        *self.draft.declared().signature
     }
 
     // How many rules there are.

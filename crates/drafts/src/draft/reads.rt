@@ -8,18 +8,21 @@ ghost use Rattle.drafts.specs.Statements.{SoundContents, SoundRules};
 ghost use Rattle.drafts.specs.Books.{CountedContents, BookRules};
 ghost use Rattle.drafts.specs.Stores.{seen};
 
-use super::Draft;
+use super::{Declared, Draft};
 use crate::span::Span;
-use terms::signature::Signature;
 
 impl Draft {
-    // The sorts and symbols.
-    pub fn signature(&self) -> &Signature
-        ensures value { view result.now ≡ (seen self.now).signature }
+    // The sorts and symbols, and how many rules each symbol promises.
+    pub fn declared(&self) -> Declared<'_>
+        ensures signature { view result.signature.now ≡ (seen self.now).signature }
+        ensures promised { result.promised.now ≡ (seen self.now).promised }
         ensures sound { SoundContents (seen self.now).signature }
         ensures counted { CountedContents (seen self.now) }
     {
-        &self.signature
+        Declared {
+            signature: &self.signature,
+            promised: self.promises(),
+        }
     }
 
     // How many rules stand.

@@ -5,7 +5,7 @@ ghost use Rattle.drafts.specs.Books.{book_of};
 ghost use Rattle.drafts.specs.Stores.{seen};
 ghost use Rattle.trees.specs.Opens.{open_of};
 ghost use Rattle.trees.specs.Rows.{chosen};
-ghost use Rattle.trees.specs.Growth.{nodes_of, IsGrown, Added, AtStage, cost};
+ghost use Rattle.trees.specs.Growth.{nodes_of, IsGrown, NodesAdded, AllBelow, Added, AtStage, cost};
 
 use super::Store;
 use crate::grown::Grown;
@@ -46,6 +46,8 @@ impl Store {
         requires stage { AtStage (book_of (seen draft.now)) fuel (open_of stage.now.positions) (chosen stage.now.remain (book_of (seen draft.now)).rules) }
         requires room { length (nodes_of self.old) + cost fuel (chosen stage.now.remain (book_of (seen draft.now)).rules) ≤ 1024 }
         ensures added { Added self.old self.new (cost fuel (chosen stage.now.remain (book_of (seen draft.now)).rules)) }
+        ensures counted { NodesAdded self.old self.new (the_grown (seen draft.now).signature fuel (open_of stage.now.positions) (chosen stage.now.remain (book_of (seen draft.now)).rules)) }
+        ensures below { AllBelow self.old self.new result }
         ensures grown { IsGrown (seen draft.now).signature (book_of (seen draft.now)).rules (nodes_of self.new) (the_grown (seen draft.now).signature fuel (open_of stage.now.positions) (chosen stage.now.remain (book_of (seen draft.now)).rules)) result }
     {
         if let Some(rule) = sole_open(draft, stage) {
@@ -60,7 +62,7 @@ impl Store {
         // By place: a symbol is new where no earlier place has it. A loop: a closure may not call this function again.
         for i in (0..MOST_RULES).rev() {
             if let Some(symbol) = new_head(&shared.heads, i) {
-                let arity = arity_of(draft.signature(), symbol);
+                let arity = arity_of(draft.declared().signature, symbol);
                 let below = Stage {
                     positions: stage.positions.opened(&shared.path, arity),
                     remain: with_head(&shared.heads, symbol),
@@ -74,7 +76,7 @@ impl Store {
                 });
             }
         }
-        let covered = self.covers(draft.signature(), &shared.heads, children);
+        let covered = self.covers(draft.declared().signature, &shared.heads, children);
         let whole = covered && complete;
         Some(Grown {
             kind: Kind::Branch(shared.path, children),

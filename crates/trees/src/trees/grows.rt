@@ -7,7 +7,7 @@ ghost use Rattle.drafts.specs.Books.{book_of};
 ghost use Rattle.drafts.specs.Stores.{seen, verdict};
 ghost use Rattle.rewriting.specs.FixedTree.{fixed_tree};
 ghost use Rattle.trees.specs.Checks.{function_role, judged, fault_at, check_fault};
-ghost use Rattle.trees.specs.Standing.{nodes_in, roots_in, refusal, IsFunction, AllRooted, owed, TreeAdded};
+ghost use Rattle.trees.specs.Standing.{nodes_in, roots_in, refusal, IsFunction, AllRooted, OthersRootless, AllOnTrees, NodesOnly, owed, TreeAdded};
 
 use super::Trees;
 use crate::fault::CheckFault;
@@ -37,6 +37,9 @@ impl Trees {
     pub fn of(draft: &Draft) -> Result<Trees, CheckFault>
         ensures fault { refusal result ≡ check_fault (seen draft.now) }
         ensures rooted { IfOk result (AllRooted (book_of (seen draft.now))) }
+        ensures counted { IfOk result (NodesOnly (book_of (seen draft.now))) }
+        ensures on_trees { IfOk result AllOnTrees }
+        ensures rootless { IfOk result (OthersRootless (book_of (seen draft.now))) }
     {
         // What is there is the refusal: no method of Option makes that a `?` in less.
         if let Some(function) = draft.awaited() {
@@ -44,7 +47,7 @@ impl Trees {
         }
         let mut trees = Trees::none();
         // By number: the symbols are their numbers, and the first refusal ends it.
-        for symbol in 0..draft.signature().symbol_count() {
+        for symbol in 0..draft.declared().signature.symbol_count() {
             // The cast loses nothing: there are at most 96 symbols.
             trees.add_tree(draft, symbol as u8)?;
         }
@@ -59,7 +62,7 @@ impl Trees {
         ensures fault { result ≡ verdict (fault_at (book_of (seen draft.now)) symbol) tt }
         ensures added { OnOk result (TreeAdded (book_of (seen draft.now)) symbol self.old self.new) }
     {
-        if is_function(draft.signature(), symbol) {
+        if is_function(draft.declared().signature, symbol) {
             self.add_function(draft, symbol)
         } else {
             Ok(())
@@ -75,7 +78,7 @@ impl Trees {
         ensures added { OnOk result (TreeAdded (book_of (seen draft.now)) function self.old self.new) }
     {
         let stage = Stage {
-            positions: Open::of_call(arity_of(draft.signature(), function)),
+            positions: Open::of_call(arity_of(draft.declared().signature, function)),
             remain: rules_of(draft, function),
         };
         let grown = self

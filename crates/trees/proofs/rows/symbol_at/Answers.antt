@@ -11,5 +11,5 @@ returns-in_err-letter_at c = c.from_residual.ensures ∙ left_symbol c.args.draf
 pub returns : goal.returns
 returns c =
     c.constructor_symbol.ensures
-    ∙ ap (λ (S : Signature). constructor_symbol S c.in_ok-letter_at.field-0) c.signature.ensures.value
+    ∙ ap (λ (S : Signature). constructor_symbol S c.in_ok-letter_at.field-0) c.declared.ensures.signature
     ∙ left_symbol c.args.draft.now (steps_of c.args.path.now) c.args.rule _ c.in_ok-letter_at.ensures

@@ -13,8 +13,8 @@ use Rattle.trees.specs.Growth.{nodes_of}
 use Rattle.trees.proofs.Drafted.{draft_short}
 use Rattle.trees.proofs.Told.{place_some, place_none, shared_none, grown_some, grown_none}
 use Rattle.trees.proofs.Growths.{GrownTo, grows_none}
-use Rattle.trees.proofs.Stages.{fuel_left, none_added, rule_grown, none_grown}
-use Rattle.trees.proofs.Branches.{few_arguments, Branching, branching, branch_fuel, branch_begins, branch_skip, branch_leads, branch_covered, branch_ends, branch_added, paid_all, NewHead, NewChild, new_short, new_open, new_child, new_room, new_added, new_missing, new_more}
+use Rattle.trees.proofs.Stages.{fuel_left, none_added, rule_grown, rule_counted, rule_below, none_grown, none_counted, none_below}
+use Rattle.trees.proofs.Branches.{few_arguments, Branching, branching, branch_fuel, branch_begins, branch_skip, branch_leads, branch_covered, branch_ends, branch_counts, branch_added, paid_all, NewHead, NewChild, new_short, new_open, new_child, new_room, new_added, new_missing, new_more}
 use Rattle.trees.proofs.store.Store.+grow.Goals as goal
 use Rattle.trees.proofs.store.Store.+grow.Goals.{In_ok-shared, In-Some-new_head, After-arity_of-arity, After-with_head, After-loop-i, then-complete, else-complete, then-covered, else-covered}
 
@@ -28,6 +28,8 @@ returns-in-Some t c =
     record {
       added = none_added B (draft_short d) c.args.fuel ps rs c.requires.stage c.args.self.now;
       grown = rule_grown B.signature B.rules (nodes_of c.args.self.now) c.args.fuel ps rs x.0 c.in-Some.rule (fuel_left B (draft_short d) c.args.fuel ps rs c.requires.stage) x.1 x.2;
+      counted = rule_counted B.signature c.args.fuel ps rs x.0 c.args.self.now (fuel_left B (draft_short d) c.args.fuel ps rs c.requires.stage) x.1;
+      below = rule_below c.args.self.now c.in-Some.rule;
     }
 
 pub returns-in_err-shared : goal.returns-in_err-shared
@@ -42,6 +44,8 @@ returns-in_err-shared t c =
     record {
       added = none_added B (draft_short d) c.args.fuel ps rs c.requires.stage c.args.self.now;
       grown = none_grown B.signature B.rules (nodes_of c.args.self.now) (grow B.signature c.args.fuel ps rs) c.from_residual.result (grows_none B.signature c.args.fuel ps rs e f) c.from_residual.ensures;
+      counted = none_counted c.args.self.now c.args.self.now (grow B.signature c.args.fuel ps rs) (grows_none B.signature c.args.fuel ps rs e f);
+      below = none_below c.args.self.now c.args.self.now c.from_residual.result c.from_residual.ensures;
     }
 
 -- no rule is left alone, and those that remain share a position
@@ -54,7 +58,7 @@ at_head c = record { after = omega (arith, c.loop-i-test.true); within = omega (
 
 -- its arity
 at_arity : {t : ℕ} (c : After-arity_of-arity t) → c.arity_of-arity.result ≡ length (head_args (book_of (seen c.args.draft.now)).signature (symbol c.in-Some-new_head.symbol))
-at_arity c = c.arity_of-arity.ensures ∙ ap (λ (S : Signature). length (head_args S (symbol c.in-Some-new_head.symbol))) c.signature.ensures.value
+at_arity c = c.arity_of-arity.ensures ∙ ap (λ (S : Signature). length (head_args S (symbol c.in-Some-new_head.symbol))) c.declared.ensures.signature
 
 -- what its child is
 at_child : {t : ℕ} (c : After-with_head t)
@@ -108,6 +112,8 @@ returns-in_err-child t c =
     record {
       added = new_added b h z c.loop-i.invariant g.added;
       grown = none_grown B.signature B.rules (nodes_of c.grow.new.self) (grow B.signature c.args.fuel (open_of c.args.stage.now.positions) (chosen c.args.stage.now.remain B.rules)) c.from_residual-in_err-child.result (new_missing b h z none) c.from_residual-in_err-child.ensures;
+      counted = none_counted c.args.self.now c.grow.new.self (grow B.signature c.args.fuel (open_of c.args.stage.now.positions) (chosen c.args.stage.now.remain B.rules)) (new_missing b h z none);
+      below = none_below c.args.self.now c.grow.new.self c.from_residual-in_err-child.result c.from_residual-in_err-child.ensures;
     }
 
 pub push-children-requires : goal.push-children-requires
@@ -133,7 +139,7 @@ loop-i-preserved-in-Some-new_head t c =
       | then-complete w ↦ w.complete-is ∙ ap (λ (y : Bool). y && k.complete) (sym w.if-complete.true)
       | else-complete w ↦ w.complete-is ∙ w.if-complete.false ∙ ap (λ (y : Bool). y && k.complete) (sym w.if-complete.false)
     ] in
-    let more = new_more b h k _ some.0 z c.loop-i.invariant g.added some.1 some.2 some.3 c.push-children.ensures.pushed refl refl refl in
+    let more = new_more b h k _ some.0 z c.loop-i.invariant g.added g.counted g.below some.1 some.2 some.3 c.push-children.ensures.pushed refl refl refl in
     rw (both, c.push-children.ensures.place) more
 
 pub covers-covered-requires : goal.covers-covered-requires
@@ -147,10 +153,10 @@ returns t c =
     let p = goal.at.returns t c in
     let b = at_branch p.In_ok-shared in
     let h = at_end p.After-loop-i in
-    let covered = branch_covered b c.signature-2.result.now c.covers-covered.result c.signature-2.ensures.value c.covers-covered.ensures in
+    let covered = branch_covered b c.declared-2.result.signature.now c.covers-covered.result c.declared-2.ensures.signature c.covers-covered.ensures in
     let both : c.if-covered.whole ≡ (c.covers-covered.result && c.loop-i.complete) =
     elim c.if-covered.branch [
       | then-covered w ↦ w.whole-is ∙ ap (λ (y : Bool). y && c.loop-i.complete) (sym w.if-covered.true)
       | else-covered w ↦ w.whole-is ∙ w.if-covered.false ∙ ap (λ (y : Bool). y && c.loop-i.complete) (sym w.if-covered.false)
     ] in
-    record { added = branch_added b h; grown = rw both (branch_ends b c.covers-covered.result covered h) }
+    record { added = branch_added b h; grown = rw both (branch_ends b c.covers-covered.result covered h); counted = branch_counts b h; below = h.reached }

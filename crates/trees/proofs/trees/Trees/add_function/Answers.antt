@@ -12,7 +12,7 @@ use Rattle.drafts.specs.Stores.{seen}
 use Rattle.trees.specs.Opens.{open_of}
 use Rattle.trees.specs.Rows.{chosen}
 use Rattle.trees.specs.Nodes.{Is}
-use Rattle.trees.specs.Growth.{nodes_of, IsGrown, cost}
+use Rattle.trees.specs.Growth.{nodes_of, IsGrown, NodesAdded, AllBelow, cost}
 use Rattle.trees.proofs.Told.{grown_some, grown_none, ok_none}
 use Rattle.trees.proofs.Branches.{few_arguments}
 use Rattle.trees.proofs.Rooting.{call_open, Called, called, function_below, no_tree, incomplete, complete, function_added}
@@ -22,7 +22,7 @@ use Rattle.trees.proofs.trees.Trees.add_function.Goals.{After-rules_of, In_ok-gr
 -- the function's call
 at_function : (c : After-rules_of) → Called c.args.draft.now c.args.function (open_of c.of_call.result) c.rules_of.result
 at_function c = called c.args.draft.now c.args.function (open_of c.of_call.result) c.rules_of.result c.requires.whole c.requires.function
-    (call_open c.args.function c.of_call.ensures c.arity_of.ensures c.signature.ensures.value) c.rules_of.ensures
+    (call_open c.args.function c.of_call.ensures c.arity_of.ensures c.declared.ensures.signature) c.rules_of.ensures
 
 -- the tree that was grown is the fixed tree
 at_tree : (c : In_ok-grown) → (t : Tree) × (fixed_tree (book_of (seen c.args.draft.now)) c.args.function ≡ Some t) × Is (book_of (seen c.args.draft.now)).rules (nodes_of c.grow.new.self) c.in_ok-grown.grown.kind t × (c.in_ok-grown.grown.complete ≡ is_complete (seen c.args.draft.now).signature t)
@@ -34,7 +34,7 @@ at_tree c =
     (g.0, sym z.tree ∙ g.1, g.2, g.3)
 
 pub of_call-requires : goal.of_call-requires
-of_call-requires c = let f = few_arguments c.signature.result.now c.args.function in omega (arith, c.arity_of.ensures)
+of_call-requires c = let f = few_arguments c.declared.result.signature.now c.args.function in omega (arith, c.arity_of.ensures)
 
 pub grow-requires : goal.grow-requires
 grow-requires c =
@@ -79,5 +79,6 @@ returns c =
     let yes = not-false c.in_ok-grown.grown.complete c.if-not-grown.false in
     record {
       fault = complete tt B.signature f (fixed_tree B f) g.0 g.1 (sym g.3 ∙ yes);
-      added = function_added B f a _ c.grow.new.self _ g.0 (cost longest_side (chosen c.rules_of.result B.rules)) l c.grow.ensures.added g.1 g.2 refl c.push-root.ensures.pushed (ap (set a.roots f) c.push-root.ensures.place) z.room;
+      added = function_added B f a _ c.grow.new.self _ g.0 (cost longest_side (chosen c.rules_of.result B.rules)) c.requires.function l c.grow.ensures.added (subst (NodesAdded a.store c.grow.new.self) z.tree c.grow.ensures.counted) g.1
+          (subst (AllBelow a.store c.grow.new.self) c.in_ok-grown.ensures.ok_part c.grow.ensures.below) g.2 refl c.push-root.ensures.pushed (ap (set a.roots f) c.push-root.ensures.place) z.room;
     }

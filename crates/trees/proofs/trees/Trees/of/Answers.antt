@@ -10,23 +10,23 @@ use Rattle.trees.specs.declared.fault.CheckFault.TheVariants.{RulesMissing}
 use Rattle.trees.specs.declared.node.Node.{Node}
 use Rattle.trees.specs.declared.trees.Trees.{Trees}
 use Rattle.trees.specs.Checks.{fault_at, first_fault}
-use Rattle.trees.specs.Standing.{refusal, AllRooted}
+use Rattle.trees.specs.Standing.{roots_in, refusal, AllRooted, OthersRootless, AllOnTrees, NodesOnly}
 use Rattle.trees.proofs.Places.{nth_below}
 use Rattle.trees.proofs.Drafted.{draft_room}
-use Rattle.trees.proofs.Rooting.{up_to_next, up_to_fault, first_none, function_stands}
+use Rattle.trees.proofs.Rooting.{up_to_next, up_to_fault, first_none, all_counted, none_rootless, function_stands, stands_function}
 use Rattle.trees.proofs.trees.Trees.of.Goals as goal
 use Rattle.trees.proofs.trees.Trees.of.Goals.{After-symbol_count-symbol-end}
 
 -- how many symbols there are
 at_count : (c : After-symbol_count-symbol-end) → c.symbol_count-symbol-end.result ≡ length (seen c.args.draft.now).signature.symbols
-at_count c = c.symbol_count-symbol-end.ensures.value ∙ ap (λ (S : Signature). length S.symbols) c.signature.ensures.value
+at_count c = c.symbol_count-symbol-end.ensures.value ∙ ap (λ (S : Signature). length S.symbols) c.declared.ensures.signature
 
 pub loop-symbol-init : goal.loop-symbol-init
 loop-symbol-init c =
     let d = c.args.draft.now in
     let r = draft_room d in
     let n = ap (λ (ns : List Node). length ns) c.none-trees.ensures.nodes in
-    record { faultless = refl; rooted = λ f l h. absurd (omega arith); room = omega arith }
+    record { faultless = refl; rooted = λ f l h. absurd (omega arith); rootless = λ f k. none_rootless (roots_in c.none-trees.result) f c.none-trees.ensures.roots; on_trees = λ j l. absurd (omega arith); counted = omega arith; room = omega arith }
 
 pub add_tree-requires : goal.add_tree-requires
 add_tree-requires c =
@@ -47,6 +47,9 @@ returns-in_err-add_tree c =
     record {
       fault = ap refusal r ∙ sym f ∙ ap (λ (o : Option ℕ). option_or (option_map RulesMissing o) (first_fault B 0 B.signature.symbols)) c.in_default.ensures;
       rooted = subst (λ (x : Result Trees CheckFault). IfOk x (AllRooted B)) (sym r) tt;
+      rootless = subst (λ (x : Result Trees CheckFault). IfOk x (OthersRootless B)) (sym r) tt;
+      on_trees = subst (λ (x : Result Trees CheckFault). IfOk x AllOnTrees) (sym r) tt;
+      counted = subst (λ (x : Result Trees CheckFault). IfOk x (NodesOnly B)) (sym r) tt;
     }
 
 pub loop-symbol-preserved : goal.loop-symbol-preserved
@@ -68,4 +71,7 @@ returns c =
     record {
       fault = sym (first_none B s c.loop-symbol.trees (omega (arith, c.loop-symbol-test.false)) h) ∙ ap (λ (o : Option ℕ). option_or (option_map RulesMissing o) (first_fault B 0 B.signature.symbols)) c.in_default.ensures;
       rooted = λ f k. let g = function_stands d f k in let l = nth_below B.signature.symbols f g.1 in h.rooted f (omega (arith, c.loop-symbol-test.false)) g;
+      rootless = λ f k. h.rootless f (λ g. k (stands_function d f g.1));
+      on_trees = h.on_trees;
+      counted = all_counted B s c.loop-symbol.trees (omega (arith, c.loop-symbol-test.false)) h;
     }
