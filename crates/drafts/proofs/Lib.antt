@@ -1,4 +1,5 @@
 pub mod Lists
+pub mod Again
 pub mod Verdicts
 pub mod Stores
 pub mod Kept

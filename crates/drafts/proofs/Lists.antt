@@ -1,7 +1,10 @@
 -- Loops over lists of numbers and names.
-use Rattle.std.proofs.Common.{◌≡◌, ℕ, zero, suc, ◌+◌, ◌<◌, ◌≤◌, Bool, true, false, cond, ◌||◌, ltb, List, [], ◌∷◌, ◌++◌, length, get_or, Some, None, Option, sym, refl, ap, ◌∙◌, arith}
+use Rattle.std.proofs.Common.{◌≡◌, ℕ, zero, suc, ◌+◌, ◌<◌, ◌≤◌, Bool, true, false, cond, ◌||◌, ltb, List, [], ◌∷◌, ◌++◌, length, get_or, Some, None, Option, sym, refl, ap, ap₂, ◌∙◌, subst, ◌⊎◌, inl, inr, take, arith}
 use Rattle.std.proofs.Math.Bool.{or_assoc}
-use Rattle.std.proofs.lemmas.Bool.{and_parts, and_from, ltb-true, lt-ltb}
+use denote.Param.Members.{Mut}
+use Rattle.std.specs.Fn.{Called}
+use Rattle.std.specs.Array.{IsFromFnResultFrom}
+use Rattle.std.proofs.lemmas.Bool.{cases_lt, and_parts, and_from, ltb-true, lt-ltb}
 use Rattle.std.proofs.lemmas.List.Recursion.{is_sum_by}
 use Rattle.std.specs.List.{sum_by, count_by}
 use Rattle.std.specs.Str.{bytes_eq}
@@ -50,3 +53,22 @@ total_sum = is_sum_by total (λ p. p) refl (λ p ps. refl)
 
 pub functions_counted : (ps : List ℕ) → functions_in ps ≡ count_by (λ p. ltb 0 p) ps
 functions_counted = is_sum_by functions_in (λ p. cond (ltb 0 p) 1 0) refl (λ p ps. refl)
+
+-- an array has at each place what the closure gives there
+pub made_at : {F B : Type 0} (g : Mut F (ℕ × Unit {0}) B) (f : F) (t : ℕ → B) (ys : List B) → ((i : ℕ) (y : B) (q : F) → Called g f (i, tt) y q → (q ≡ f) × (y ≡ t i)) → (n i : ℕ) (h : F) → h ≡ f
+    → IsFromFnResultFrom g h ys i n → (k : ℕ) → i ≤ k → k < i + n → (d : B) → get_or ys k d ≡ t k
+made_at g f t ys c zero i h e m k a b d = absurd (omega arith)
+made_at {F} g f t ys c (suc n) i h e m k a b d = go (cases_lt i k) (λ l. made_at g f t ys c n (i + 1) m.0 one.0 m.4 k (omega arith) (omega arith) d)
+  where
+    one : (m.0 ≡ f) × (m.1 ≡ t i)
+    one = c i m.1 m.0 (subst (λ (z : F). Called g z (i, tt) m.1 m.0) e m.3)
+
+    go : (i < k) ⊎ (k ≤ i) → (i < k → get_or ys k d ≡ t k) → get_or ys k d ≡ t k
+    go (inr l) later = let z : i ≡ k = omega arith in subst (λ (j : ℕ). get_or ys j d ≡ t j) z (m.2.1 d ∙ one.1)
+    go (inl l) later = later l
+
+-- the front of a list that has the elements of another
+pub take_same : (xs ys : List ℕ) → length xs ≤ length ys → ((k : ℕ) → k < length xs → get_or ys k 0 ≡ get_or xs k 0) → take (length xs) ys ≡ xs
+take_same [] ys l h = refl
+take_same (x ∷ xs) [] l h = absurd (omega arith)
+take_same (x ∷ xs) (y ∷ ys) l h = ap₂ (λ (u : ℕ) (us : List ℕ). u ∷ us) (h 0 (omega arith)) (take_same xs ys (omega arith) (λ k i. h (suc k) (omega arith)))

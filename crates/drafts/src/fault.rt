@@ -82,7 +82,7 @@ impl RuleFault {
 }
 
 impl ContentFault {
-    // What is wrong, in words.
+    // What is wrong, in words; `Display` writes them.
     fn reason(self) -> &'static str
         ensures { result.now ≡ content_reason self }
     {
@@ -123,7 +123,7 @@ impl fmt::Display for Side {
 }
 
 impl RuleFault {
-    // What is wrong, in words.
+    // What is wrong, in words; `Display` writes them.
     fn reason(self) -> &'static str
         ensures { result.now ≡ rule_reason self }
     {

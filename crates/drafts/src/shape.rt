@@ -50,7 +50,7 @@ fn stands_in(letter: u64, word: &[u64]) -> bool
 fn bad_length(word: &[u64]) -> bool
     ensures { result ≡ bad_length word.now }
 {
-    word.len() == 0 || word.len() > LONGEST_SIDE
+    word.is_empty() || word.len() > LONGEST_SIDE
 }
 
 // The first number cell.
@@ -96,13 +96,7 @@ fn is_again(before: &[u64], letter: u64) -> bool
 fn first_twice(word: &[u64]) -> Option<usize>
     ensures { result ≡ first_twice word.now }
 {
-    // A loop: inside a closure of `position` it is not known that i is a place in the word.
-    for (i, letter) in word.iter().enumerate() {
-        if is_again(&word[..i], *letter) {
-            return Some(i);
-        }
-    }
-    None
+    (0..word.len()).find(|i| is_again(&word[..*i], word[*i]))
 }
 
 fn is_new(left: &[u64], letter: u64) -> bool
@@ -213,6 +207,7 @@ pub(crate) fn word_faults(
     length_fault(Side::Right, right)?;
     letter_fault(signature, Side::Left, left)?;
     letter_fault(signature, Side::Right, right)?;
+    // Here and below: what is asked of one side alone is refused in place, with no side to hand over.
     if let Some(at) = first_cell(left) {
         return Err(RuleFault::LeftCell(at));
     }

@@ -55,7 +55,7 @@ impl<K: NumberKind> Limits<K> {
         self.below.atmost(self.lower, low) && self.below.atmost(high, self.upper)
     }
 
-    // The cell, or the nearer end where it is outside.
+    // The cell, or the nearer end where it is outside. The clauses name the meaning below once for each word.
     fn hold(&self, cell: u32) -> u32
         requires ends { are_ends (K.NumberKind.meaning self.now.below) self.now.lower self.now.upper ≡ true }
         requires lawful { Lawful (K.NumberKind.meaning self.now.below) cell }

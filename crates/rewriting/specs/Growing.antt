@@ -75,7 +75,7 @@ abbrev pub paid : ℕ → ℕ → List Rule → ℕ
 paid most n [] = 0
 paid most n (r ∷ rs) = (size (left_side r) + n - most) + paid most n rs
 
--- and under each of some constructors
+-- and under each of some constructors; a recursion as in paid, for the same reason
 abbrev pub paid_under : ℕ → ℕ → List ℕ → List Rule → List Head → ℕ
 paid_under most n p rs [] = 0
 paid_under most n p rs (c ∷ cs) = paid most n (filter (has_at p c) rs) + paid_under most n p rs cs

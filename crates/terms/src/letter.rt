@@ -8,11 +8,11 @@ use std::fmt;
 // The numbers of symbols, 96 of them, and of variables, eight.
 pub const SYMBOLS: u64 = 0x1_0000_0000;
 
-const SYMBOLS_END: u64 = 0x1_0000_0060;
+const SYMBOLS_END: u64 = SYMBOLS + 96;
 
 pub const VARIABLES: u64 = 0x2_0000_0000;
 
-const VARIABLES_END: u64 = 0x2_0000_0008;
+const VARIABLES_END: u64 = VARIABLES + 8;
 
 // The letters of the symbols that are built in.
 pub const PLUS: u64 = SYMBOLS;

@@ -42,7 +42,7 @@ impl fmt::Display for Refusal {
     }
 }
 
-// A call, with its number or its refusal.
+// A call, with its number or its refusal. A function and no Display: it takes the answer apart and prints by the runtime.
 fn tell<N: fmt::Display + Drop, F: Into<Refusal>>(
     rt: &HostRuntime,
     call: &str,

@@ -46,7 +46,7 @@ impl fmt::Display for Letters<'_> {
     }
 }
 
-// A position: argument numbers with dots between. It stands in tour_checks too, as programs share no crate of their own.
+// A position: argument numbers with dots between. It stands in tour_checks too: in a library its text would be pinned, which is longer than both.
 #[derive(Clone, Copy)]
 pub struct Position<'a>(pub &'a [u8]);
 

@@ -23,7 +23,7 @@ impl fmt::Display for Symbol<'_> {
     }
 }
 
-// A position: argument numbers with dots between. It stands in tour too, as programs share no crate of their own.
+// A position: argument numbers with dots between. It stands in tour too: in a library its text would be pinned, which is longer than both.
 #[derive(Clone, Copy)]
 pub struct Position<'a>(pub &'a [u8]);
 

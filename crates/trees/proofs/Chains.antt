@@ -4,7 +4,7 @@ use Rattle.std.proofs.lemmas.Bool.{cases_lt}
 use denote.Param.Members.{Mut}
 use Rattle.std.specs.Fn.{Called}
 use Rattle.std.specs.Bool.{MatchBool}
-use Rattle.std.specs.Array.{IsFromFnResultFrom, MapsFrom}
+use Rattle.std.specs.Array.{MapsFrom}
 use Rattle.std.specs.List.{list_all, list_any, AllWithin, HoldsAt}
 use Rattle.std.proofs.lemmas.List.Folds.{list_all_at, list_any_at}
 
@@ -34,18 +34,6 @@ any_told t (x ∷ xs) true h = sym (list_any_at t (x ∷ xs) h.0 x h.1 (h.2 x))
 any_told t xs false h = sym (none_passes t xs h)
 
 -- an array has at each place what the closure gives there
-pub made_at : {F B : Type 0} (g : Mut F (ℕ × Unit {0}) B) (f : F) (t : ℕ → B) (ys : List B) → ((i : ℕ) (y : B) (q : F) → Called g f (i, tt) y q → (q ≡ f) × (y ≡ t i)) → (n i : ℕ) (h : F) → h ≡ f
-    → IsFromFnResultFrom g h ys i n → (k : ℕ) → i ≤ k → k < i + n → (d : B) → get_or ys k d ≡ t k
-made_at g f t ys c zero i h e m k a b d = absurd (omega arith)
-made_at {F} g f t ys c (suc n) i h e m k a b d = go (cases_lt i k) (λ l. made_at g f t ys c n (i + 1) m.0 one.0 m.4 k (omega arith) (omega arith) d)
-  where
-    one : (m.0 ≡ f) × (m.1 ≡ t i)
-    one = c i m.1 m.0 (subst (λ (z : F). Called g z (i, tt) m.1 m.0) e m.3)
-
-    go : (i < k) ⊎ (k ≤ i) → (i < k → get_or ys k d ≡ t k) → get_or ys k d ≡ t k
-    go (inr l) later = let z : i ≡ k = omega arith in subst (λ (j : ℕ). get_or ys j d ≡ t j) z (m.2.1 d ∙ one.1)
-    go (inl l) later = later l
-
 pub mapped_at : {F A B : Type 0} (g : Mut F (A × Unit {0}) B) (f : F) (t : A → B) (xs : List A) (ys : List B) → ((x : A) (y : B) (q : F) → Called g f (x, tt) y q → (q ≡ f) × (y ≡ t x)) → (n i : ℕ) (h : F) → h ≡ f
     → MapsFrom g h xs ys i n → (k : ℕ) → i ≤ k → k < i + n → (c : A) (d : B) → get_or ys k d ≡ t (get_or xs k c)
 mapped_at g f t xs ys c zero i h e m k a b u d = absurd (omega arith)

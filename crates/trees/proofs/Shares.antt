@@ -1,7 +1,12 @@
 -- Positions that the rules which remain share.
 use Rattle.std.proofs.Common.{◌≡◌, ℕ, zero, suc, ◌+◌, ◌<◌, ◌≤◌, Bool, true, false, cond, ◌&&◌, ◌≢◌, ◌⊎◌, List, [], ◌∷◌, map, length, get_or, drop, set, replicate, Some, None, Option, sym, refl, ap, ◌∙◌, subst, inl, inr, arith, is_some}
-use Rattle.std.specs.List.{slice_get}
-use Rattle.std.proofs.lemmas.List.{ext_get_or, get_or-set_same, get_or-set_other, length-set, at_drop_more, at_drop_all}
+use denote.Ref.{Bor}
+use denote.Param.Members.{Mut, Called}
+use Rattle.std.specs.Bool.{⊤, IsTrue}
+use Rattle.std.specs.Iterator.Runs.{Run, ItemsMapTo, AllItemsGive, IsFirstToGive, CallKeepsClosure}
+use Rattle.std.specs.List.{slice_get, AllWithin, HoldsAt}
+use Rattle.std.specs.Option.{MatchOption, IsSomeAnd, option_map}
+use Rattle.std.proofs.lemmas.List.{ext_get_or, get_or-set_same, get_or-set_other, length-set}
 use Rattle.std.proofs.lemmas.Bool.{cases_lt}
 use Rattle.terms.specs.Terms.{Head, cell, symbol}
 use Rattle.terms.specs.Options.{onward}
@@ -127,36 +132,59 @@ module _ (p : List ℕ) (m : List Bool) (R : List Rule) (cells : CellsNone p R) 
       go k (inl x) = h.before k x
       go k (inr x) = h.behind k x ∙ sym (head_past p m R k (omega arith))
 
--- the first shared position
-cond_some : {A : Type 0} (b : Bool) (x y : A) → Some x ≡ cond b (Some y) None → (b ≡ true) × (x ≡ y)
-cond_some true x y e = (refl, cc)
-cond_some false x y e = absurd (zero_one (cc))
+-- what is true of the item at a place is true of the element there
+read : {A B : Type 0} (v : A → B) (P : B → Type 0) (o : Option A) {y : B} → option_map v o ≡ Some y → MatchOption o ⊤ (λ x. P (v x)) → P y
+read v P None e h = absurd (zero_one (cc))
+read v P (Some x) {y} e h = let w : v x ≡ y = cc in subst P w h
 
-cond_none : {A : Type 0} (b : Bool) (y : A) → None ≡ cond b (Some y) None → b ≡ false
-cond_none true y e = absurd (zero_one (cc))
-cond_none false y e = refl
+below : {A : Type 0} (o : Option A) {P Q : A → Type 0} → ((x : A) → P x → Q x) → IsSomeAnd o P → MatchOption o ⊤ Q
+below None f h = absurd h
+below (Some x) f h = f x h
 
-module _ (ds : List Path) (m : List Bool) (R : List Rule) (i : ℕ) (path : Path) (l : i < length ds) (at : path ≡ get_or ds i path) where
-  -- what is left of the positions, one step on
-  step : first_shared (map steps_of (drop i ds)) (chosen m R) ≡ cond (all_have (steps_of path) (chosen m R)) (Some (steps_of path)) (first_shared (map steps_of (drop (i + 1) ds)) (chosen m R))
-  step = at_drop_more (λ (qs : List Path). first_shared (map steps_of qs) (chosen m R)) ds i path l
-      ∙ ap (λ (q : Path). cond (all_have (steps_of q) (chosen m R)) (Some (steps_of q)) (first_shared (map steps_of (drop (i + 1) ds)) (chosen m R))) (sym at)
+within : {A : Type 0} (o : Option A) {P Q : A → Type 0} → ((x : A) → P x → Q x) → MatchOption o ⊤ P → MatchOption o ⊤ Q
+within None f h = h
+within (Some x) f h = f x h
 
-  pub shared_here : (hs : List (Option ℕ)) → first_shared (map steps_of (drop i ds)) (chosen m R) ≡ first_shared (map steps_of ds) (chosen m R)
-      → Some hs ≡ cond (all_have (steps_of path) (chosen m R)) (Some (heads_at (steps_of path) m R)) None → IsShared R m (first_shared (map steps_of ds) (chosen m R)) (Some (record { path = path; heads = hs }))
-  shared_here hs e h =
-      let x = cond_some (all_have (steps_of path) (chosen m R)) hs (heads_at (steps_of path) m R) h in
-      let s : Shared = record { path = path; heads = hs } in
-      let q : first_shared (map steps_of ds) (chosen m R) ≡ Some (steps_of path) = sym e ∙ step ∙ ap (λ (b : Bool). cond b (Some (steps_of path)) (first_shared (map steps_of (drop (i + 1) ds)) (chosen m R))) x.0 in
-      subst (λ (o : Option (List ℕ)). IsShared R m o (Some s)) (sym q) (s, refl, refl, x.1)
+-- what the code's search finds among some positions
+module _ (m : List Bool) (R : List Rule) where
+  abbrev answer : Bool → Path → Option Shared
+  answer b d = option_map (λ (hs : List (Option ℕ)). record { path = d; heads = hs }) (cond b (Some (heads_at (steps_of d) m R)) None)
 
-  pub shared_later : first_shared (map steps_of (drop i ds)) (chosen m R) ≡ first_shared (map steps_of ds) (chosen m R) → None ≡ cond (all_have (steps_of path) (chosen m R)) (Some (heads_at (steps_of path) m R)) None
-      → first_shared (map steps_of (drop (i + 1) ds)) (chosen m R) ≡ first_shared (map steps_of ds) (chosen m R)
-  shared_later e h =
-      let x = cond_none (all_have (steps_of path) (chosen m R)) (heads_at (steps_of path) m R) h in
-      sym (step ∙ ap (λ (b : Bool). cond b (Some (steps_of path)) (first_shared (map steps_of (drop (i + 1) ds)) (chosen m R))) x) ∙ e
+  abbrev shared_at : Path → Option Shared
+  shared_at d = answer (all_have (steps_of d) (chosen m R)) d
 
-pub shared_nowhere : (ds : List Path) (m : List Bool) (R : List Rule) (i : ℕ) → length ds ≤ i → first_shared (map steps_of (drop i ds)) (chosen m R) ≡ first_shared (map steps_of ds) (chosen m R) → IsShared R m (first_shared (map steps_of ds) (chosen m R)) None
-shared_nowhere ds m R i l e =
-    let q : first_shared (map steps_of ds) (chosen m R) ≡ None = sym e ∙ at_drop_all (λ (qs : List Path). first_shared (map steps_of qs) (chosen m R)) ds i l in
-    subst (λ (o : Option (List ℕ)). IsShared R m o None) (sym q) refl
+  shared_later : (b : Bool) (d : Path) (o : Option (List ℕ)) (r : Option Shared) → answer b d ≡ None → IsShared R m o r → IsShared R m (cond b (Some (steps_of d)) o) r
+  shared_later true d o r e h = absurd (zero_one (cc))
+  shared_later false d o r e h = h
+
+  shared_here : (b : Bool) (d : Path) (o : Option (List ℕ)) (y : Shared) → answer b d ≡ Some y → IsShared R m (cond b (Some (steps_of d)) o) (Some y)
+  shared_here true d o y e = (record { path = d; heads = heads_at (steps_of d) m R }, sym e, refl, refl)
+  shared_here false d o y e = absurd (zero_one (cc))
+
+  shared_nowhere : (ds : List Path) → AllWithin (λ d. shared_at d ≡ None) ds 0 (length ds) → IsShared R m (first_shared (map steps_of ds) (chosen m R)) None
+  shared_nowhere [] e = refl
+  shared_nowhere (d ∷ ds) e =
+      shared_later (all_have (steps_of d) (chosen m R)) d (first_shared (map steps_of ds) (chosen m R)) None (e 0 d (omega arith) (omega arith))
+      (shared_nowhere ds (λ k x a b. e (suc k) x (omega arith) (omega arith)))
+
+  shared_first : (ds : List Path) (i : ℕ) (y : Shared) → i < length ds → HoldsAt (λ d. shared_at d ≡ Some y) ds i → AllWithin (λ d. shared_at d ≡ None) ds 0 i
+      → IsShared R m (first_shared (map steps_of ds) (chosen m R)) (Some y)
+  shared_first [] i y l h e = absurd (omega arith)
+  shared_first (d ∷ ds) zero y l h e = shared_here (all_have (steps_of d) (chosen m R)) d (first_shared (map steps_of ds) (chosen m R)) y (h d)
+  shared_first (d ∷ ds) (suc i) y l h e =
+      shared_later (all_have (steps_of d) (chosen m R)) d (first_shared (map steps_of ds) (chosen m R)) (Some y) (e 0 d (omega arith) (omega arith))
+      (shared_first ds i y (omega arith) h (λ k x a b. e (suc k) x (omega arith) (omega arith)))
+
+  module _ {S F : Type 0} {steps : S → Option (Bor Path) → S → Type 0} (g : Mut F (Bor Path × Unit {0}) (Option Shared)) (f : F) (ds : List Path) (p : Run steps) (items : ItemsMapTo p (λ y. y.now) ds)
+      (told : (x : Bor Path) (r : Option Shared) (q : F) → Called g f (x, tt) r q → r ≡ shared_at x.now) (kept : CallKeepsClosure g f) where
+    pub shared_found : (r : Option Shared) → MatchOption r (IsTrue p.whole × AllItemsGive p g f None) (λ y. (i : ℕ) × (i < p.len) × (p.len ≡ i + 1) × IsFirstToGive p g f (Some y) None i)
+        → IsShared R m (first_shared (map steps_of ds) (chosen m R)) r
+    shared_found None h =
+        let l = items.1 h.0 in
+        shared_nowhere ds (λ k d a b. read (λ y. y.now) (λ d. shared_at d ≡ None) (p.at k) (items.2 k d (omega (arith, l))) (within (p.at k) (λ x c. sym (told x None f c)) (h.1 kept k)))
+    shared_found (Some y) h =
+        let l = items.0 in
+        let w = h.3 kept in
+        shared_first ds h.0 y (omega (arith, l, h.1))
+        (λ d. read (λ y. y.now) (λ d. shared_at d ≡ Some y) (p.at h.0) (items.2 h.0 d h.1) (below (p.at h.0) (λ x c. sym (told x (Some y) f c)) w.0))
+        (λ k d a b. read (λ y. y.now) (λ d. shared_at d ≡ None) (p.at k) (items.2 k d (omega (arith, h.1))) (below (p.at k) (λ x c. sym (told x None f c)) (w.1 k b)))

@@ -27,7 +27,7 @@ impl CheckFault {
 }
 
 impl CheckFault {
-    // What is wrong, in words.
+    // What is wrong, in words; `Display` writes them.
     fn reason(self) -> &'static str
         ensures { result.now ≡ check_fault_reason self }
     {
@@ -39,6 +39,7 @@ impl CheckFault {
     }
 }
 
+// As a fault of words, but each names its own thing.
 impl fmt::Display for CheckFault {
     ghost output = { λ fault. Some (check_fault_text fault) };
 

@@ -44,13 +44,10 @@ fn shared_heads(draft: &Draft, path: &Path, remain: &Mask) -> Option<Heads>
 pub(crate) fn first_shared(draft: &Draft, stage: &Stage) -> Option<Shared>
     ensures { IsShared (book_of (seen draft.now)).rules stage.now.remain (first_shared (open_of stage.now.positions) (chosen stage.now.remain (book_of (seen draft.now)).rules)) result }
 {
-    // A `for`: what is found is made of the position and of its symbols, which a chain would have to pair.
-    for path in stage.positions.paths() {
-        if let Some(heads) = shared_heads(draft, path, &stage.remain) {
-            return Some(Shared { path: *path, heads });
-        }
-    }
-    None
+    stage.positions.paths().iter().find_map(|path| {
+        let heads = shared_heads(draft, path, &stage.remain)?;
+        Some(Shared { path: *path, heads })
+    })
 }
 
 // The symbol of a place, unless an earlier place has it.

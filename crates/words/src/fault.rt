@@ -32,7 +32,7 @@ impl WordFault {
 }
 
 impl WordFault {
-    // What is wrong, in words.
+    // What is wrong, in words; `Display` writes them.
     fn reason(self) -> &'static str
         ensures { result.now ≡ reason self }
     {

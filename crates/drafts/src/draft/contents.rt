@@ -1,5 +1,5 @@
 // Declaring sorts, constructors and functions.
-ghost use Rattle.std.specs.Prelude.{None, false, ◌≡◌, ◌+◌, ◌≤◌, true, not, ◌||◌, ◌∷◌, length, take, ◌==◌, nat_lt};
+ghost use Rattle.std.specs.Prelude.{None, false, ◌≡◌, ◌+◌, ◌≤◌, true, not, ◌||◌, ◌∷◌, length, take, ◌==◌, nat_lt, slice_index_or};
 ghost use Rattle.drafts.specs.Drafts.{empty, total, most_rules};
 ghost use Rattle.terms.specs.Names.{find_name};
 ghost use Rattle.terms.specs.Signatures.{add_symbol};
@@ -12,6 +12,7 @@ ghost use Rattle.drafts.specs.Stores.{seen, Does, verdict, named};
 use super::{Draft, MOST_RULES};
 use crate::fault::ContentFault;
 use crate::span::Span;
+use std::array::from_fn;
 use terms::name::Name;
 use terms::row::Row;
 use terms::signature::{MOST_ARGUMENTS, MOST_SORTS, MOST_SYMBOLS, Role, Signature};
@@ -158,7 +159,7 @@ impl Draft {
         ensures { result ≡ not (rules == 0 || nat_lt most_rules (total (seen self.now).promised + rules)) }
     {
         // The cast loses nothing, here and in `is_sort`: it makes a count wider.
-        0 < rules && rules <= (MOST_RULES - self.promised_rules()) as u64
+        (1..=(MOST_RULES - self.promised_rules()) as u64).contains(&rules)
     }
 
     // How many rules all functions promise.
@@ -267,11 +268,14 @@ fn narrowed(sorts: &[u64]) -> [u8; MOST_ARGUMENTS]
     requires small { all_below 16 sorts.now ≡ true }
     ensures { take (length sorts.now) result ≡ sorts.now }
 {
-    let mut bytes = [0; MOST_ARGUMENTS];
-    // Tried: past a `zip` with `iter_mut` nothing is known of what was written.
-    for (i, sort) in sorts.iter().enumerate() {
-        // The cast loses nothing: sorts are below 16.
-        bytes[i] = *sort as u8;
-    }
-    bytes
+    from_fn(|i| sort_at(sorts, i))
+}
+
+// The sort at a place, or 0 past the last.
+fn sort_at(sorts: &[u64], i: usize) -> u8
+    requires { all_below 16 sorts.now ≡ true }
+    ensures { result ≡ slice_index_or sorts.now i 0 }
+{
+    // The cast loses nothing: sorts are below 16.
+    sorts.get(i).map_or(0, |sort| *sort as u8)
 }

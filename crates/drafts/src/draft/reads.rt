@@ -73,7 +73,7 @@ impl Draft {
         Some(self.part(span.start + span.left, span.right))
     }
 
-    // Where a rule's letters stand.
+    // Where a rule's letters stand. One get of its own row, as the name of a sort and the node at a place.
     fn span(&self, rule: usize) -> Option<Span>
         ensures { result ≡ slice_get (items self.now.rules) rule }
     {

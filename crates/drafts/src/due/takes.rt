@@ -18,10 +18,7 @@ impl Due {
     pub(crate) fn next(&mut self) -> Option<u8>
         ensures { TakesFirst (pending self.old) result (pending self.new) }
     {
-        if self.start == 256 {
-            return None;
-        }
-        let sort = self.sorts[self.start];
+        let sort = *self.sorts.get(self.start)?;
         self.start += 1;
         Some(sort)
     }

@@ -125,10 +125,9 @@ impl Signature {
     pub fn arguments(&self, letter: u64) -> Option<&[u8]>
         ensures { option_map (λ p. p.now) result ≡ args_of (view self.now) letter }
     {
-        match Letter::try_from(letter) {
-            Ok(Letter::Symbol(symbol)) => Some(self.declared(symbol)?.arguments()),
-            Ok(Letter::Cell(_) | Letter::Variable(_)) => Some(&[]),
-            Err(_) => None,
+        match Letter::try_from(letter).ok()? {
+            Letter::Symbol(symbol) => Some(self.declared(symbol)?.arguments()),
+            Letter::Cell(_) | Letter::Variable(_) => Some(&[]),
         }
     }
 

@@ -10,6 +10,7 @@ use terms::row::Row;
 
 impl Open {
     // The open positions of a call with so many arguments.
+    // At most four, here, in `push_below` and in `opened`: a type of arities would be made for each call and taken apart in it.
     pub(crate) fn of_call(arity: usize) -> Open
         requires { arity ≤ 4 }
         ensures { open_of result ≡ below [] 1 arity }
@@ -19,6 +20,7 @@ impl Open {
         open
     }
 
+    // No position. As with nodes, a row with a filler of its own.
     fn none() -> Open
         ensures { open_of result ≡ [] }
     {
@@ -41,7 +43,7 @@ impl Open {
         requires room { length (open_of self.old) + arity ≤ 64 }
         ensures { open_of self.new ≡ open_of self.old ++ below (steps_of path.now) 1 arity }
     {
-        // By number: the arguments' own numbers are the steps.
+        // By number: the arguments' own numbers are the steps; the cast loses nothing, as they are at most four.
         for i in 0..arity {
             self.push(path.down(i as u8 + 1));
         }

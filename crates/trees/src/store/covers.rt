@@ -14,6 +14,7 @@ use terms::signature::{Role, Signature};
 
 impl Store {
     // Whether there is a child for a symbol, if it is a constructor of the sort of one of the heads.
+    // Signature, heads and children go as in `covers`: a struct would be made for one call. A link is a place, since there is no heap.
     fn is_covered(
         &self,
         signature: &Signature,
@@ -24,6 +25,7 @@ impl Store {
         requires { Leads (nodes_of self.now) children heads.now }
         ensures { result ≡ passes (meets (view signature.now) (there heads.now) symbol) (slice_get (view signature.now).symbols symbol) }
     {
+        // Three ways: nothing declared, a constructor, another role.
         match signature.symbol_role(symbol) {
             None => false,
             Some(Role::Constructor) => !makes(signature, heads, sort_of(signature, symbol))
@@ -42,6 +44,7 @@ impl Store {
         requires { Leads (nodes_of self.now) children heads.now }
         ensures { result ≡ all_covered (view signature.now) (there heads.now) }
     {
+        // The cast loses nothing: there are at most 96 symbols.
         (0..signature.symbol_count()).all(|symbol| self.is_covered(
             signature,
             heads,

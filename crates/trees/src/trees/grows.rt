@@ -41,7 +41,7 @@ impl Trees {
         ensures on_trees { IfOk result AllOnTrees }
         ensures rootless { IfOk result (OthersRootless (book_of (seen draft.now))) }
     {
-        // What is there is the refusal: no method of Option makes that a `?` in less.
+        // What is there is the refusal: `map_or` would say the same with an Ok in front.
         if let Some(function) = draft.awaited() {
             return Err(CheckFault::RulesMissing(function));
         }

@@ -4,8 +4,8 @@ use Rattle.terms.specs.Options.{passes}
 use Rattle.rewriting.specs.Rules.{Rule}
 use Rattle.drafts.specs.Books.{book_of}
 use Rattle.drafts.specs.Stores.{seen}
+use Rattle.drafts.proofs.Lists.{made_at}
 use Rattle.drafts.proofs.Sound.{book_rules}
-use Rattle.trees.proofs.Chains.{made_at}
 use Rattle.trees.proofs.LeftSides.{rule_count_is}
 use Rattle.trees.proofs.Chosen.{chosen_places}
 use Rattle.trees.proofs.masks.rules_of.Goals as goal
