@@ -1,14 +1,9 @@
 // The meet book written by calls, and calls that are refused on the way.
-use crate::letters::{MEET, UP, X, Y, ZERO};
+use crate::letters::{LEVEL, MEET, TRUTH, UP, X, Y, ZERO};
 use drafts::draft::Draft;
 use drafts::fault::{ContentFault, RuleFault};
 use std::{fmt, io};
 use terms::letter::{PLUS, TRUE};
-
-// The sort truth, and the sort level that the draft declares; tour_checks and each test name their own.
-const TRUTH: u64 = 1;
-
-const LEVEL: u64 = 2;
 
 // Why a call is refused.
 #[derive(Clone, Copy)]
@@ -115,8 +110,8 @@ fn add_rules(rt: &HostRuntime, draft: &mut Draft) -> io::Result<()> {
     tell(rt, "sort late", draft.declare_sort(b"late"))
 }
 
-// Contents and rules of one draft. What is refused changes nothing, so that the draft goes on as if it had not been.
-pub fn show_draft(rt: &HostRuntime) -> anyhow::Result<()> {
+// Contents and rules of one draft, which is answered. What is refused changes nothing, so that the draft goes on as if it had not been.
+pub fn show_draft(rt: &HostRuntime) -> anyhow::Result<Draft> {
     let mut draft = Draft::new();
     println!(rt; "A book is drafted by calls, each with what it answers.")?;
     declare_contents(rt, &mut draft)?;
@@ -126,5 +121,5 @@ pub fn show_draft(rt: &HostRuntime) -> anyhow::Result<()> {
     refuse_shapes(rt, &mut draft)?;
     println!(rt; "The rules follow, as many as were promised.")?;
     add_rules(rt, &mut draft)?;
-    Ok(())
+    Ok(draft)
 }

@@ -1,6 +1,7 @@
-// A guided tour: a sweep of a pulse generator from standstill to the red line, then words taken apart, then a book drafted.
+// A guided tour: a sweep of a pulse generator from standstill to the red line, then words taken apart, then a book drafted, then drafts checked.
 #![tactic(auto)]
 
+mod checking;
 mod drafting;
 mod letters;
 mod parts;
@@ -34,7 +35,8 @@ fn show_sweep(rt: &HostRuntime) -> anyhow::Result<()> {
 fn run(rt: &HostRuntime) -> anyhow::Result<()> {
     show_sweep(rt)?;
     parts::show_words(rt)?;
-    drafting::show_draft(rt)
+    let meet = drafting::show_draft(rt)?;
+    checking::show_checks(rt, &meet)
 }
 
 fn main(rt: HostRuntime) -> anyhow::Result<()> {

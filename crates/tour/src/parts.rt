@@ -14,7 +14,7 @@ use words::parts::part;
 const MOST: usize = 64;
 
 // The sort level, its constructors zero and up, and the function meet of two levels.
-// Tests and the other program have such a signature too: each makes its own, by the calls that it shows.
+// Tests have such a signature too: each makes its own, by the calls that it shows.
 fn levels() -> Option<Signature> {
     let mut signature = Signature::built_in();
     let level = signature.add_sort(Name::new(b"level")?)?;

@@ -1,8 +1,24 @@
-// How letters, parts of words and positions are printed.
+// How symbols, letters, parts of words and positions are printed.
 use std::fmt;
 use terms::letter::Letter;
 use terms::signature::Signature;
 use words::part::Part;
+
+// A symbol by its name.
+#[derive(Clone, Copy)]
+pub struct Symbol<'a> {
+    pub signature: &'a Signature,
+    pub symbol: u8,
+}
+
+impl fmt::Display for Symbol<'_> {
+    fn fmt<W: fmt::Write>(&self, f: &mut fmt::Formatter<W>) -> fmt::Result {
+        match self.signature.symbol_name(self.symbol) {
+            Some(name) => write!(f, "{name}"),
+            None => f.write_str("?"),
+        }
+    }
+}
 
 // A letter by its name or number.
 #[derive(Clone, Copy)]
@@ -16,10 +32,10 @@ impl fmt::Display for Spelled<'_> {
         match Letter::try_from(self.letter) {
             Ok(Letter::Cell(cell)) => write!(f, "{cell}"),
             Ok(Letter::Variable(variable)) => write!(f, "X{variable}"),
-            Ok(Letter::Symbol(symbol)) => match self.signature.symbol_name(symbol) {
-                Some(name) => write!(f, "{name}"),
-                None => f.write_str("?"),
-            },
+            Ok(Letter::Symbol(symbol)) => {
+                let signature = self.signature;
+                write!(f, "{}", Symbol { signature, symbol })
+            }
             Err(_) => f.write_str("?"),
         }
     }
@@ -46,7 +62,7 @@ impl fmt::Display for Letters<'_> {
     }
 }
 
-// A position: argument numbers with dots between. It stands in tour_checks too: in a library its text would be pinned, which is longer than both.
+// A position: argument numbers with dots between.
 #[derive(Clone, Copy)]
 pub struct Position<'a>(pub &'a [u8]);
 
@@ -59,6 +75,20 @@ impl fmt::Display for Position<'_> {
         write!(f, "{first}")?;
         for number in rest {
             write!(f, ".{number}")?;
+        }
+        Ok(())
+    }
+}
+
+// So many steps to the right, of two blanks each.
+#[derive(Clone, Copy)]
+pub struct Indent(pub usize);
+
+impl fmt::Display for Indent {
+    fn fmt<W: fmt::Write>(&self, f: &mut fmt::Formatter<W>) -> fmt::Result {
+        let Indent(steps) = self;
+        for _ in 0..*steps {
+            f.write_str("  ")?;
         }
         Ok(())
     }

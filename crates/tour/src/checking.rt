@@ -1,51 +1,18 @@
 // Four drafts are checked; two of them are books, shown with their trees.
-use crate::spelling::{Position, Symbol};
+use crate::letters::{LEVEL, TRUTH, UP, X, ZERO};
+use crate::spelling::{Indent, Position, Symbol};
 use books::book::Book;
 use drafts::draft::Draft;
 use std::io;
-use terms::letter::{FALSE, SYMBOLS, TRUE, VARIABLES};
+use terms::letter::{FALSE, SYMBOLS, TRUE};
 use terms::signature::{MOST_SYMBOLS, Signature};
 use trees::node::Kind;
-
-// The letters of what the drafts declare, and of their variables; the other program and each test name their own.
-const ZERO: u64 = SYMBOLS + 5;
-
-const UP: u64 = SYMBOLS + 6;
-
-const X: u64 = VARIABLES;
-
-const Y: u64 = VARIABLES + 1;
-
-const TRUTH: u64 = 1;
-
-const LEVEL: u64 = 2;
 
 // No tree of the tour is deeper.
 const DEEPEST: usize = 8;
 
-// The sort level with zero and up.
-// Tests and the other program have such levels too: each makes its own, by the calls that it shows.
-fn levels() -> anyhow::Result<Draft> {
-    let mut draft = Draft::new();
-    draft.declare_sort(b"level")?;
-    draft.declare_constructor(b"zero", &[], LEVEL)?;
-    draft.declare_constructor(b"up", &[LEVEL], LEVEL)?;
-    Ok(draft)
-}
-
-// meet(zero, Y) = zero; meet(up(X), zero) = zero; meet(up(X), up(Y)) = up(meet(X, Y))
-fn meet() -> anyhow::Result<Draft> {
-    let meet = SYMBOLS + 7;
-    let mut draft = levels()?;
-    draft.declare_function(b"meet", &[LEVEL, LEVEL], LEVEL, 3)?;
-    draft.add_rule(&[meet, ZERO, Y], &[ZERO])?;
-    draft.add_rule(&[meet, UP, X, ZERO], &[ZERO])?;
-    draft.add_rule(&[meet, UP, X, UP, Y], &[UP, meet, X, Y])?;
-    Ok(draft)
-}
-
 // pick(A, true) = A; pick(true, false) = false; pick(false, false) = true
-// As `meet`, `either` and `half` written out by its calls: the rules are to be read in the order in which they are added.
+// As `either` and `half` written out by its calls: the rules are to be read in the order in which they are added.
 fn pick() -> anyhow::Result<Draft> {
     let pick = SYMBOLS + 5;
     let mut draft = Draft::new();
@@ -70,7 +37,10 @@ fn either() -> anyhow::Result<Draft> {
 // half(zero) = zero; half(up(up(A))) = up(half(A))
 fn half() -> anyhow::Result<Draft> {
     let half = SYMBOLS + 7;
-    let mut draft = levels()?;
+    let mut draft = Draft::new();
+    draft.declare_sort(b"level")?;
+    draft.declare_constructor(b"zero", &[], LEVEL)?;
+    draft.declare_constructor(b"up", &[LEVEL], LEVEL)?;
     draft.declare_function(b"half", &[LEVEL], LEVEL, 2)?;
     draft.add_rule(&[half, ZERO], &[ZERO])?;
     draft.add_rule(&[half, UP, UP, X], &[UP, half, X])?;
@@ -85,11 +55,10 @@ struct Shown<'a> {
 }
 
 impl Shown<'_> {
-    fn symbol(&self, symbol: u8, indent: usize) -> Symbol<'_> {
+    fn symbol(&self, symbol: u8) -> Symbol<'_> {
         Symbol {
             signature: self.signature,
             symbol,
-            indent,
         }
     }
 }
@@ -125,7 +94,7 @@ fn show_children(
         .child(place, s)
         .map(|child| (s, child)));
     for (symbol, child) in children {
-        print!(rt; "{}", shown.symbol(symbol, indent))?;
+        print!(rt; "{} {}", Indent(indent), shown.symbol(symbol))?;
         show_tree(rt, shown, child, indent + 1)?;
     }
     Ok(())
@@ -140,7 +109,7 @@ fn show_book(rt: &HostRuntime, book: &Book) -> io::Result<()> {
     };
     let roots = (0..MOST_SYMBOLS as u8).filter_map(|s| book.rules.root(s).map(|root| (s, root)));
     for (symbol, root) in roots {
-        print!(rt; "{}", shown.symbol(symbol, 1))?;
+        print!(rt; "{} {}", Indent(1), shown.symbol(symbol))?;
         show_tree(rt, shown, root, 2)?;
     }
     Ok(())
@@ -160,19 +129,18 @@ fn tell(rt: &HostRuntime, name: &str, draft: &Draft) -> io::Result<()> {
             let function = Symbol {
                 signature: draft.declared().signature,
                 symbol,
-                indent: 0,
             };
-            println!(rt; "  {name}: refused {number}, names{function}")
+            println!(rt; "  {name}: refused {number}, names {function}")
         }
     }
 }
 
-// Four drafts, and what Check says of them.
-pub fn show_checks(rt: &HostRuntime) -> anyhow::Result<()> {
+// The draft of meet and three more, and what Check says of them.
+pub fn show_checks(rt: &HostRuntime, meet: &Draft) -> anyhow::Result<()> {
     println!(rt;
         "Drafts are checked; a book is shown with its trees, by place, constructor and rule."
     )?;
-    tell(rt, "meet", &meet()?)?;
+    tell(rt, "meet", meet)?;
     tell(rt, "pick", &pick()?)?;
     tell(rt, "either", &either()?)?;
     tell(rt, "half", &half()?)?;

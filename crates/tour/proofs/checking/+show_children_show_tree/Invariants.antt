@@ -1,5 +1,5 @@
 use Rattle.std.proofs.Common.{◌+◌, ◌-◌, ◌*◌}
-use Rattle.tour_checks.proofs.checking.+show_children_show_tree.Given as goal
+use Rattle.tour.proofs.checking.+show_children_show_tree.Given as goal
 
 abbrev pub decreases-show_children : goal.decreases-show_children
 decreases-show_children l = 2 * (9 - l.indent)
