@@ -11,7 +11,7 @@ use Rattle.drafts.specs.Books.{book_of, CountedContents, BookRules}
 use Rattle.trees.specs.declared.fault.CheckFault.{CheckFault}
 use Rattle.trees.specs.declared.fault.CheckFault.TheVariants.{RulesMissing, NoTree, Incomplete}
 use Rattle.trees.specs.declared.trees.Trees.{Trees}
-use Rattle.trees.specs.Standing.{AllRooted, OthersRootless, AllOnTrees, NodesOnly}
+use Rattle.trees.specs.Standing.{AllRooted, OthersRootless, AllOnTrees, NodesOnly, LaidOut, RulesDiffer}
 
 -- the function f is completely defined: it has a complete definitional tree
 abbrev pub CompletelyDefined : Book → ℕ → Type 0
@@ -31,16 +31,19 @@ pub record ExactCheck (D : Draft) (o : Option CheckFault) : Type 0 where
   pub no_tree : (f : ℕ) → (o ≡ Some (NoTree f)) ↔ ((awaited D ≡ None) × FirstAtFault (book_of D) f × ((n : Node) → TreeFor (book_of D) f n → ⊥))
   pub incomplete : (f : ℕ) → (o ≡ Some (Incomplete f)) ↔ ((awaited D ≡ None) × FirstAtFault (book_of D) f × ((n : Node) × TreeFor (book_of D) f n))
 
--- every rule set: sort-correct and left-linear, no rule is missing, at the root of each function stands its fixed tree, no other symbol has a root, each node is on one of these trees, and as many nodes stand as these trees have
+-- every rule set: sort-correct and left-linear, no rule is missing, no two are the same, at the root of each function stands its fixed tree, no other symbol has a root, each node is on one of these trees,
+-- as many nodes stand as these trees have, and nodes and roots are the layout of these trees
 pub record SoundSet (D : Draft) (t : Trees) : Type 0 where
   pub contents : SoundContents D.signature
   pub counted : CountedContents D
   pub rules : BookRules D
   pub whole : awaited D ≡ None
+  pub differ : RulesDiffer (book_of D)
   pub rooted : AllRooted (book_of D) t
   pub rootless : OthersRootless (book_of D) t
   pub on_trees : AllOnTrees t
   pub nodes : NodesOnly (book_of D) t
+  pub laid : LaidOut (book_of D) t
 
 -- every book: and each function has a complete tree
 pub record SoundBook (D : Draft) (t : Trees) : Type 0 where

@@ -9,7 +9,7 @@ mod tests {
     use terms::letter::{FALSE, SYMBOLS, TRUE, VARIABLES};
     use trees::node::Kind;
 
-    // The letters of what these tests declare, and of their variables; each program names its own.
+    // The letters of what these tests declare, and of their variables; the program and other tests name their own.
     const ZERO: u64 = SYMBOLS + 5;
 
     const UP: u64 = SYMBOLS + 6;
@@ -38,7 +38,7 @@ mod tests {
     }
 
     // The sort level with zero and up, and the sort void without constructors.
-    // Programs and other tests have such levels too: each makes its own, by the calls that it shows.
+    // The program and other tests have such levels too: each makes its own, by the calls that it shows.
     fn levels() -> Result<Draft, Fail> {
         let mut draft = Draft::new();
         held(draft.declare_sort(b"level"))?;
@@ -142,13 +142,26 @@ mod tests {
         Ok(())
     }
 
-    // Two functions of a level: the first with so many of these rules, and the second complete.
-    fn two(first: usize, promised: u64) -> Result<Draft, Fail> {
-        let rules: [(&[u64], &[u64]); 2] = [(&[FIRST, ZERO], &[ZERO]), (&[FIRST, UP, X], &[X])];
+    // A left and a right side.
+    type Sides = (&'static [u64], &'static [u64]);
+
+    const FIRST_ZERO: Sides = (&[FIRST, ZERO], &[ZERO]);
+
+    const FIRST_UP: Sides = (&[FIRST, UP, X], &[X]);
+
+    const FIRST_ANY: Sides = (&[FIRST, X], &[X]);
+
+    const SECOND_UP: Sides = (&[SECOND, UP, X], &[X]);
+
+    const SECOND_ANY: Sides = (&[SECOND, X], &[X]);
+
+    // Two functions of a level that promise so many rules, and the first rules of them.
+    fn two(promised: [u64; 2], rules: &[Sides]) -> Result<Draft, Fail> {
+        let [first, second] = promised;
         let mut draft = levels()?;
-        held(draft.declare_function(b"first", &[LEVEL], LEVEL, promised))?;
-        held(draft.declare_function(b"second", &[LEVEL], LEVEL, 1))?;
-        for (left, right) in rules.iter().take(first) {
+        held(draft.declare_function(b"first", &[LEVEL], LEVEL, first))?;
+        held(draft.declare_function(b"second", &[LEVEL], LEVEL, second))?;
+        for (left, right) in rules {
             held(draft.add_rule(left, right))?;
         }
         Ok(draft)
@@ -156,63 +169,197 @@ mod tests {
 
     #[test]
     fn missing_rules_come_first(rt: HostRuntime) -> Result<(), Fail> {
-        assert_eq!(rt; refusal(&two(0, 1)?), Some((22, 7)));
-        assert_eq!(rt; refusal(&two(1, 1)?), Some((22, 8)));
-        assert_eq!(rt; refusal(&two(1, 2)?), Some((22, 7)));
+        assert_eq!(rt; refusal(&two([1, 1], &[])?), Some((22, 7)));
+        assert_eq!(rt; refusal(&two([2, 1], &[FIRST_ZERO])?), Some((22, 7)));
+        // The first function is incomplete, and then it has no tree.
+        assert_eq!(rt; refusal(&two([1, 1], &[FIRST_ZERO])?), Some((22, 8)));
+        let twice = two([2, 1], &[FIRST_ANY, FIRST_ANY])?;
+        assert_eq!(rt; refusal(&twice), Some((22, 8)));
+        Ok(())
+    }
+
+    #[test]
+    fn a_function_behind_a_sound_one_is_named(rt: HostRuntime) -> Result<(), Fail> {
+        let incomplete = two([2, 1], &[FIRST_ZERO, FIRST_UP, SECOND_UP])?;
+        assert_eq!(rt; refusal(&incomplete), Some((24, 8)));
+        let twice = two([1, 2], &[FIRST_ANY, SECOND_ANY, SECOND_ANY])?;
+        assert_eq!(rt; refusal(&twice), Some((23, 8)));
+        let sound = two([2, 1], &[FIRST_ZERO, FIRST_UP, SECOND_ANY])?;
+        assert_eq!(rt; refusal(&sound), None);
         Ok(())
     }
 
     #[test]
     fn the_first_function_at_fault_is_named(rt: HostRuntime) -> Result<(), Fail> {
-        let mut behind = two(2, 2)?;
-        held(behind.add_rule(&[SECOND, UP, X], &[X]))?;
-        assert_eq!(rt; refusal(&behind), Some((24, 8)));
-        let mut before = two(1, 1)?;
-        held(before.add_rule(&[SECOND, UP, X], &[X]))?;
+        let both = two([1, 1], &[FIRST_ZERO, SECOND_UP])?;
+        assert_eq!(rt; refusal(&both), Some((24, 7)));
+        // 24 before 23, and 23 before 24: the function decides, not the number.
+        let before = two([1, 2], &[FIRST_ZERO, SECOND_ANY, SECOND_ANY])?;
         assert_eq!(rt; refusal(&before), Some((24, 7)));
+        let behind = two([2, 1], &[FIRST_ANY, FIRST_ANY, SECOND_UP])?;
+        assert_eq!(rt; refusal(&behind), Some((23, 7)));
+        let alone = two([2, 1], &[FIRST_ANY, FIRST_ANY, SECOND_ANY])?;
+        assert_eq!(rt; refusal(&alone), Some((23, 7)));
         Ok(())
     }
 
     #[test]
-    fn an_incomplete_function_is_named_before_one_without_a_tree(
-        rt: HostRuntime,
-    ) -> Result<(), Fail> {
-        let mut draft = levels()?;
-        held(draft.declare_function(b"first", &[LEVEL], LEVEL, 1))?;
-        held(draft.declare_function(b"second", &[LEVEL], LEVEL, 2))?;
-        held(draft.add_rule(&[FIRST, ZERO], &[ZERO]))?;
-        held(draft.add_rule(&[SECOND, X], &[X]))?;
-        held(draft.add_rule(&[SECOND, Y], &[Y]))?;
-        assert_eq!(rt; refusal(&draft), Some((24, 7)));
+    fn left_sides_may_nest_to_the_longest(rt: HostRuntime) -> Result<(), Fail> {
+        let mut left = [UP; 64];
+        left[0] = FIRST;
+        left[63] = X;
+        assert_eq!(rt;
+            refusal(&defined(&[LEVEL], &[(&left, &[X])])?),
+            Some((24, 7))
+        );
+        let twice = defined(&[LEVEL], &[(&left, &[X]), (&left, &[X])])?;
+        assert_eq!(rt; refusal(&twice), Some((23, 7)));
         Ok(())
     }
 
-    // The rule to which zero leads, where the tree of the function branches at the argument 1 and true leads nowhere.
-    fn rule_of_zero(book: &Book) -> Option<usize> {
-        let root = book.rules.root(7)?;
-        let Kind::Branch(path, _) = book.rules.node(root)?.kind else {
-            return None;
+    // The node of the first function's tree to which these constructors lead from its root. Zero is symbol 5, up 6, the first function 7.
+    fn node_at(book: &Book, symbols: &[u8]) -> Option<Kind> {
+        let mut place = book.rules.root(7)?;
+        for symbol in symbols {
+            place = book.rules.child(place, *symbol)?;
+        }
+        Some(book.rules.node(place)?.kind)
+    }
+
+    // Whether they lead to this rule.
+    fn applies(book: &Book, symbols: &[u8], rule: usize) -> bool {
+        node_at(book, symbols) == Some(Kind::Rule(rule))
+    }
+
+    // Whether they lead to a branch at this position.
+    fn branches(book: &Book, symbols: &[u8], path: &[u8]) -> bool {
+        matches!(node_at(book, symbols), Some(Kind::Branch(at, _)) if at.steps() == path)
+    }
+
+    // Rules of a function of two levels, each with a constructor at both.
+    const BOTH: [(&[u64], &[u64]); 4] = [
+        (&[FIRST, UP, X, UP, Y], &[FIRST, Y, X]),
+        (&[FIRST, ZERO, ZERO], &[ZERO]),
+        (&[FIRST, UP, X, ZERO], &[X]),
+        (&[FIRST, ZERO, UP, X], &[UP, X]),
+    ];
+
+    #[test]
+    fn the_first_common_place_is_branched_at(rt: HostRuntime) -> Result<(), Fail> {
+        let mut book = Book::empty();
+        assert!(rt; book.check(&defined(&[LEVEL, LEVEL], &BOTH)?).is_ok());
+        assert!(rt; branches(&book, &[], &[1]));
+        assert!(rt; branches(&book, &[5], &[2]) && branches(&book, &[6], &[2]));
+        assert!(rt; applies(&book, &[5, 5], 1) && applies(&book, &[5, 6], 3));
+        assert!(rt; applies(&book, &[6, 5], 2) && applies(&book, &[6, 6], 0));
+        assert!(rt; node_at(&book, &[3]).is_none());
+        assert!(rt; node_at(&book, &[5, 5, 5]).is_none());
+        Ok(())
+    }
+
+    #[test]
+    fn a_book_has_the_rules_of_its_draft(rt: HostRuntime) -> Result<(), Fail> {
+        let mut book = Book::empty();
+        assert!(rt; book.check(&defined(&[LEVEL, LEVEL], &BOTH)?).is_ok());
+        for (rule, (left, right)) in BOTH.iter().enumerate() {
+            assert_eq!(rt; book.rules.left(rule), Some(*left));
+            assert_eq!(rt; book.rules.right(rule), Some(*right));
+        }
+        assert_eq!(rt; book.rules.rule_count(), 4);
+        assert_eq!(rt; book.rules.left(4), None);
+        Ok(())
+    }
+
+    // A node's symbol, rule or first child, and next child.
+    type Shape = (u8, Result<usize, Option<usize>>, Option<usize>);
+
+    fn shape(book: &Book, place: usize) -> Option<Shape> {
+        let node = book.rules.node(place)?;
+        let kind = match node.kind {
+            Kind::Rule(rule) => Ok(rule),
+            Kind::Branch(_, first) => Err(first),
         };
-        let Kind::Rule(rule) = book.rules.node(book.rules.child(root, 5)?)?.kind else {
-            return None;
-        };
-        (path.steps() == [1].as_slice() && book.rules.child(root, 3).is_none()).then_some(rule)
+        Some((node.symbol, kind, node.next))
+    }
+
+    #[test]
+    fn nodes_lie_from_the_last_child_to_the_root(rt: HostRuntime) -> Result<(), Fail> {
+        let rules: [Sides; 3] = [
+            (&[FIRST, ZERO, Y], &[ZERO]),
+            (&[FIRST, UP, X, ZERO], &[ZERO]),
+            (&[FIRST, UP, X, UP, Y], &[UP, FIRST, X, Y]),
+        ];
+        let nodes = [
+            (6, Ok(2), None),
+            (5, Ok(1), Some(0)),
+            (6, Err(Some(1)), None),
+            (5, Ok(0), Some(2)),
+            (7, Err(Some(3)), None),
+        ];
+        let mut book = Book::empty();
+        assert!(rt; book.check(&defined(&[LEVEL, LEVEL], &rules)?).is_ok());
+        assert_eq!(rt; book.rules.root(7), Some(4));
+        for (place, node) in nodes.iter().enumerate() {
+            assert_eq!(rt; shape(&book, place), Some(*node));
+        }
+        assert_eq!(rt; shape(&book, 5), None);
+        Ok(())
+    }
+
+    // Whether the place holds the book of the first function with its rules for zero and up.
+    fn is_step(place: &Book) -> bool {
+        place.rules.rule_count() == 2
+            && branches(place, &[], &[1])
+            && applies(place, &[5], 0)
+            && applies(place, &[6], 1)
+            && place.rules.root(8).is_none()
     }
 
     #[test]
     fn a_place_keeps_its_book_where_a_draft_is_refused(rt: HostRuntime) -> Result<(), Fail> {
         let mut place = Book::empty();
-        let step: [(&[u64], &[u64]); 2] = [(&[FIRST, ZERO], &[ZERO]), (&[FIRST, UP, X], &[X])];
-        assert!(rt; place.check(&defined(&[LEVEL], &step)?).is_ok());
-        assert_eq!(rt; place.rules.rule_count(), 2);
-        assert_eq!(rt; rule_of_zero(&place), Some(0));
-        let incomplete = defined(&[LEVEL], &step[0..1])?;
-        assert!(rt; place.check(&incomplete).is_err());
-        assert_eq!(rt; place.rules.rule_count(), 2);
-        assert_eq!(rt; rule_of_zero(&place), Some(0));
+        assert!(rt;
+            place
+                .check(&defined(&[LEVEL], &[FIRST_ZERO, FIRST_UP])?)
+                .is_ok()
+        );
+        assert!(rt; is_step(&place));
+        let refused = [
+            (22, two([1, 1], &[FIRST_ANY])?),
+            (23, two([1, 2], &[FIRST_ANY, SECOND_ANY, SECOND_ANY])?),
+            (24, two([1, 1], &[FIRST_ANY, SECOND_UP])?),
+        ];
+        for (number, draft) in refused.iter() {
+            let fault = place.check(draft).err().map(|fault| fault.numbered());
+            assert_eq!(rt; fault, Some((*number, 8)));
+            assert!(rt; is_step(&place));
+        }
+        Ok(())
+    }
+
+    #[test]
+    fn a_used_place_takes_a_book_whole(rt: HostRuntime) -> Result<(), Fail> {
+        let mut place = Book::empty();
+        assert!(rt;
+            place
+                .check(&defined(&[LEVEL], &[FIRST_ZERO, FIRST_UP])?)
+                .is_ok()
+        );
+        let other = two([2, 1], &[FIRST_UP, FIRST_ZERO, SECOND_ANY])?;
+        assert!(rt; place.check(&other).is_ok());
+        assert_eq!(rt; place.rules.rule_count(), 3);
+        assert!(rt; applies(&place, &[6], 0) && applies(&place, &[5], 1));
+        let root = place.rules.root(8).and_then(|root| place.rules.node(root));
+        assert!(rt; root.is_some_and(|node| node.kind == Kind::Rule(2) && node.symbol == 8));
+        let signature = place.declared().signature;
+        let second = signature.symbol_name(8);
+        assert!(rt; second.is_some_and(|name| name.as_bytes() == b"second".as_slice()));
+        let void = signature.sort_name(3);
+        assert!(rt; void.is_some_and(|name| name.as_bytes() == b"void".as_slice()));
         assert!(rt; place.check(&Draft::new()).is_ok());
         assert_eq!(rt; place.rules.rule_count(), 0);
-        assert!(rt; place.rules.root(7).is_none());
+        assert!(rt; place.rules.root(7).is_none() && place.rules.root(8).is_none());
+        assert_eq!(rt; place.declared().signature.symbol_count(), 5);
         Ok(())
     }
 }

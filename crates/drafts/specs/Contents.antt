@@ -24,13 +24,15 @@ outcome None D n E = record { answer = Ok n; after = E }
 abbrev pub names : Signature → List (List ℕ)
 names S = S.sorts ++ map (λ d. d.name) S.symbols
 
--- words that name no sort or symbol and yet are taken
+-- whether a name is sort, con or fun
 abbrev pub begins_content : List ℕ → Bool
 begins_content n = (bytes_eq n (codes "sort") || bytes_eq n (codes "con")) || bytes_eq n (codes "fun")
 
+-- whether it is rules or end
 abbrev pub begins_part : List ℕ → Bool
 begins_part n = bytes_eq n (codes "rules") || bytes_eq n (codes "end")
 
+-- whether it is one of these words, which name no sort or symbol and yet are taken
 abbrev pub is_keyword : List ℕ → Bool
 is_keyword n = begins_content n || begins_part n
 
@@ -39,6 +41,7 @@ abbrev pub is_found : Option ℕ → Bool
 is_found None = false
 is_found (Some i) = true
 
+-- whether a name is taken: a sort or a symbol has it, or it is such a word
 abbrev pub is_taken : Signature → List ℕ → Bool
 is_taken S n = is_found (find_name (names S) n) || is_keyword n
 
@@ -58,16 +61,17 @@ name_fault D n =
     (cond (not (well_formed n)) (Some MalformedName)
     (cond (is_taken D.signature n) (Some NameTaken) None))
 
--- 4 and 5: the sorts of the arguments ks and the symbol's own k
+-- 4 and 5: the sorts of the arguments ks and the symbol's sort k
 abbrev pub sorts_fault : Draft → List ℕ → ℕ → Option ContentFault
 sorts_fault D ks k =
     cond (not (all_below (length D.signature.sorts) (k ∷ ks))) (Some UndeclaredSort)
     (cond (nat_lt 4 (length ks)) (Some TooManyArguments) None)
 
--- 8 for a sort, and for a symbol
+-- 8 for a sort
 abbrev pub sorts_full : Draft → Option ContentFault
 sorts_full D = cond (nat_le 16 (length D.signature.sorts)) (Some NoNumberLeft) None
 
+-- and so for a symbol
 abbrev pub symbols_full : Draft → Option ContentFault
 symbols_full D = cond (nat_le 96 (length D.signature.symbols)) (Some NoNumberLeft) None
 

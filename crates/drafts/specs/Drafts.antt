@@ -8,6 +8,7 @@ pub record Sides : Type 0 where
   pub left : List ℕ
   pub right : List ℕ
 
+-- the sides that two words are
 abbrev pub sides : List ℕ → List ℕ → Sides
 sides l r = record { left = l; right = r }
 
@@ -45,12 +46,14 @@ abbrev pub letters_in : List Sides → ℕ
 letters_in [] = 0
 letters_in (r ∷ rs) = length r.left + length r.right + letters_in rs
 
--- no more rules, no longer side and no more letters in all than these
+-- a draft has no more rules than this
 abbrev pub most_rules : ℕ
 most_rules = 96
 
+-- a side has no more letters than this
 abbrev pub longest_side : ℕ
 longest_side = 64
 
+-- all rules together have no more letters than this
 abbrev pub most_letters : ℕ
 most_letters = 1024

@@ -20,32 +20,36 @@ use Rattle.drafts.specs.declared.fault.RuleFault.TheVariants.{NotAwaited, Length
 use Rattle.drafts.specs.Drafts.{Sides, Draft, awaited, letters_in, longest_side, most_letters}
 use Rattle.drafts.specs.Contents.{Outcome, outcome}
 
--- whether a letter is a number cell; a variable
+-- whether a letter is a number cell
 abbrev pub cell_letter : Option AnyLetter → Bool
 cell_letter None = false
 cell_letter (Some (Cell n)) = true
 cell_letter (Some (Symbol s)) = false
 cell_letter (Some (Variable v)) = false
 
+-- and so for a number
 abbrev pub is_cell : ℕ → Bool
 is_cell x = cell_letter (letter_of x)
 
+-- whether a letter is a variable
 abbrev pub variable_letter : Option AnyLetter → Bool
 variable_letter None = false
 variable_letter (Some (Cell n)) = false
 variable_letter (Some (Symbol s)) = false
 variable_letter (Some (Variable v)) = true
 
+-- and so for a number
 abbrev pub is_variable : ℕ → Bool
 is_variable x = variable_letter (letter_of x)
 
--- whether a letter is a function, plus, minus and atmost too
+-- whether a role is that of a function, plus, minus and atmost too
 abbrev pub calls : Option Role → Bool
 calls None = false
 calls (Some Constructor) = false
 calls (Some Function) = true
 calls (Some Operation) = true
 
+-- whether a letter has such a role
 abbrev pub is_function : Signature → ℕ → Bool
 is_function S x = calls (role_of S x)
 
@@ -75,21 +79,24 @@ abbrev pub inner_function : Signature → List ℕ → Option ℕ
 inner_function S [] = None
 inner_function S (x ∷ w) = more (first_that (is_function S) w)
 
--- 18: the first variable that stood before; u is what came before the word
+-- 18: whether a letter is a variable that stood before; u is what came before it
 abbrev pub is_again : List ℕ → ℕ → Bool
 is_again u x = is_variable x && stands_in x u
 
+-- the first such letter of a word; u is what came before the word
 abbrev pub first_again : List ℕ → List ℕ → Option ℕ
 first_again u [] = None
 first_again u (x ∷ w) = cond (is_again u x) (Some 0) (more (first_again (u ++ (x ∷ [])) w))
 
+-- and so of a whole word
 abbrev pub first_twice : List ℕ → Option ℕ
 first_twice w = first_again [] w
 
--- 19: the first variable on the right that the left lacks
+-- 19: whether a letter is a variable that the left side l lacks
 abbrev pub is_new : List ℕ → ℕ → Bool
 is_new l x = is_variable x && not (stands_in x l)
 
+-- the first such letter on the right
 abbrev pub first_new : List ℕ → List ℕ → Option ℕ
 first_new l r = first_that (is_new l) r
 
@@ -97,16 +104,18 @@ first_new l r = first_that (is_new l) r
 abbrev pub takes_sort : Signature → ℕ → ℕ → Bool
 takes_sort S x k = is_variable x || suits S closed x k
 
--- the sorts of the variables with that of a variable's letter; at first none is known
+-- the sorts of the variables with that of a variable's letter
 abbrev pub noted : Option AnyLetter → ℕ → List (Option ℕ) → List (Option ℕ)
 noted None k vs = vs
 noted (Some (Cell n)) k vs = vs
 noted (Some (Symbol s)) k vs = vs
 noted (Some (Variable v)) k vs = slice_set vs v (Some k)
 
+-- at first none is known
 abbrev pub none_known : List (Option ℕ)
 none_known = replicate 8 None
 
+-- the same answer, seen from one letter earlier
 abbrev pub one_on : Result (List (Option ℕ)) ℕ → Result (List (Option ℕ)) ℕ
 one_on (Ok vs) = Ok vs
 one_on (Err i) = Err (i + 1)
@@ -164,6 +173,7 @@ abbrev pub fault_under : Draft → Option ℕ → Sides → Option RuleFault
 fault_under D None q = Some NotAwaited
 fault_under D (Some f) q = option_or (rule_fault D.signature f q) (cond (no_room D.rules q) (Some NoRoom) None)
 
+-- and so for the function that the draft awaits
 abbrev pub rule_refusal : Draft → Sides → Option RuleFault
 rule_refusal D q = fault_under D (awaited D) q
 

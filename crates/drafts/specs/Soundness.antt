@@ -26,7 +26,7 @@ abbrev pub no_number_made : List Declaration → Bool
 no_number_made [] = true
 no_number_made (d ∷ ds) = (not (is_constructor d.role) || nat_lt 0 d.sort) && no_number_made ds
 
--- the same declarations first
+-- whether two roles are the same
 abbrev pub same_role : Role → Role → Bool
 same_role Constructor Constructor = true
 same_role Constructor Function = false
@@ -38,37 +38,41 @@ same_role Operation Constructor = false
 same_role Operation Function = false
 same_role Operation Operation = true
 
+-- whether two declarations are the same
 abbrev pub same_declaration : Declaration → Declaration → Bool
 same_declaration a b = bytes_eq a.name b.name && (same_role a.role b.role && (bytes_eq a.args b.args && a.sort == b.sort))
 
+-- whether the second list has the declarations of the first in front
 abbrev pub begins_with : List Declaration → List Declaration → Bool
 begins_with [] ds = true
 begins_with (a ∷ bs) [] = false
 begins_with (a ∷ bs) (d ∷ ds) = same_declaration d a && begins_with bs ds
 
--- functions alone promise rules, and each does
+-- whether a symbol of a role may promise so many rules: functions alone promise any, and each does
 abbrev pub promise_fits : Role → ℕ → Bool
 promise_fits Constructor p = p == 0
 promise_fits Function p = nat_lt 0 p
 promise_fits Operation p = p == 0
 
+-- and so for each symbol; there are as many promises as symbols
 abbrev pub promises_fit : List Declaration → List ℕ → Bool
 promises_fit [] [] = true
 promises_fit [] (p ∷ ps) = false
 promises_fit (d ∷ ds) [] = false
 promises_fit (d ∷ ds) (p ∷ ps) = promise_fits d.role p && promises_fit ds ps
 
--- each rule is without fault as one of the function whose turn it is
+-- whether there is no fault
 abbrev pub faultless : Option RuleFault → Bool
 faultless None = true
 faultless (Some e) = false
 
+-- whether each rule is without fault as one of the function whose turn it is
 abbrev pub stand_in_turn : Signature → List ℕ → List Sides → Bool
 stand_in_turn S fs [] = true
 stand_in_turn S [] (q ∷ qs) = false
 stand_in_turn S (f ∷ fs) (q ∷ qs) = faultless (rule_fault S f q) && stand_in_turn S fs qs
 
--- the contents, and then the rules
+-- the contents: the names, the sorts, the built-in symbols and the promises
 abbrev pub contents_sound : Signature → List ℕ → Bool
 contents_sound S ps =
     distinct (names S)
@@ -77,6 +81,7 @@ contents_sound S ps =
     && (begins_with built_in.symbols S.symbols
     && (promises_fit S.symbols ps && nat_le (total ps) most_rules))))
 
+-- the contents, and then the rules
 abbrev pub is_sound : Draft → Bool
 is_sound D = contents_sound D.signature D.promised && stand_in_turn D.signature (in_turn 0 D.promised) D.rules
 

@@ -19,6 +19,7 @@ use terms::letter::Letter;
 use terms::signature::{Role, Signature};
 use words::checks::{not_whole, sorts_end, undeclared_letter};
 
+// Whether a letter is a number cell.
 // `is_variable` and `is_function` are such tests too: one `matches!` each, which a shared function would not shorten.
 fn is_cell(letter: u64) -> bool
     ensures { result ≡ is_cell letter }
@@ -85,6 +86,7 @@ fn first_function(signature: &Signature, word: &[u64]) -> Option<usize>
         .position(|letter| is_function(signature, *letter))
 }
 
+// Whether a letter is a variable that stood before.
 // `is_new` asks the same with a not: a line each.
 fn is_again(before: &[u64], letter: u64) -> bool
     ensures { result ≡ is_again before.now letter }
@@ -240,7 +242,7 @@ pub(crate) fn shape_faults(
     sort_faults(signature, function_sort(signature, function), left, right)
 }
 
-// A function's own sort.
+// A function's sort.
 // Trees read the sort of a constructor so, too: one line over `symbol_sort` in each crate.
 fn function_sort(signature: &Signature, function: u8) -> u8
     ensures { result ≡ fn_sort (view signature.now) (own function) }

@@ -8,7 +8,7 @@ mod tests {
     use std::test::Fail;
     use terms::letter::{PLUS, SYMBOLS, TRUE, VARIABLES};
 
-    // The letters of what these tests declare, and of their variables; each program names its own.
+    // The letters of what these tests declare, and of their variables; the tour and the tests of other crates name their own.
     const ZERO: u64 = SYMBOLS + 5;
 
     const UP: u64 = SYMBOLS + 6;
@@ -49,7 +49,7 @@ mod tests {
         Ok(draft)
     }
 
-    // Other tests and the programs make such drafts too, each by the calls that it shows.
+    // Other tests and the tour make such drafts too, each by the calls that it shows.
     fn levels() -> Result<Draft, Fail> {
         declared().map_err(|_| Fail::new("the levels are refused"))
     }
@@ -298,7 +298,7 @@ mod tests {
         Ok(())
     }
 
-    // A word of so many letters: up as often as it takes, then zero.
+    // A word of 64 letters: the first as given, then up 62 times, then zero.
     fn tower(first: u64) -> [u64; 64] {
         let mut word = [UP; 64];
         word[0] = first;

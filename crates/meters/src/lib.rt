@@ -155,7 +155,7 @@ fn ticks_with(panels: &[Panel], mark: Mark) -> usize
     panels.iter().filter(|panel| panel.shows(mark)).count()
 }
 
-// The closing line of a sweep.
+// The totals of a sweep: its ticks, its pulses, and the ticks in which some meter was held or wrapped.
 pub fn add_up(pulses: &[u32], panels: &[Panel]) -> Totals
     ensures { result ≡ totals_of pulses.now panels.now }
 {

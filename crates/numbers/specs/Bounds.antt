@@ -18,28 +18,36 @@ only_sound l fits = record {
 }
 
 module _ (m : Meaning) (s : Sound m) where
+  -- each lawful cell is at most itself
   pub reflexive : (a : ℕ) → Lawful m a → Atmost m a a
   reflexive a h = elim (s.comparable a a h h) [ inl p ↦ p | inr p ↦ p ]
 
   module _ (l u : ℕ) (ends : are_ends m l u ≡ true) where
+    -- the lower end is lawful
     lower_lawful : Lawful m l
     lower_lawful = (and_parts (m.lawful l) (m.lawful u) (and_parts (m.lawful l && m.lawful u) (m.atmost l u) ends).0).0
 
+    -- and so the upper end
     upper_lawful : Lawful m u
     upper_lawful = (and_parts (m.lawful l) (m.lawful u) (and_parts (m.lawful l && m.lawful u) (m.atmost l u) ends).0).1
 
+    -- the lower end is at most the upper one
     ordered : Atmost m l u
     ordered = (and_parts (m.lawful l && m.lawful u) (m.atmost l u) ends).1
 
+    -- a lawful cell from the lower to the upper end is within
     is_within : (c : ℕ) → Lawful m c → Atmost m l c → Atmost m c u → within m l u c ≡ true
     is_within c h p q = and_from (m.lawful c && m.atmost l c) (m.atmost c u) (and_from (m.lawful c) (m.atmost l c) h p) q
 
+    -- a cell that is within is lawful below
     lawful_below : (c : ℕ) → within m l u c ≡ true → Lawful m c
     lawful_below c h = (and_parts (m.lawful c) (m.atmost l c) (and_parts (m.lawful c && m.atmost l c) (m.atmost c u) h).0).0
 
+    -- the lower end is within
     lower_within : within m l u l ≡ true
     lower_within = is_within l lower_lawful (reflexive l lower_lawful) ordered
 
+    -- a lawful cell, once it is held, is within
     held_within : (c : ℕ) → Lawful m c → within m l u (held m l u c) ≡ true
     held_within c h =
         let Inside : ℕ → Type 0 = λ x. within m l u x ≡ true in

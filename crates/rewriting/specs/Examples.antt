@@ -33,25 +33,31 @@ four_more =
     ∷ record { name = codes "loop"; role = Function; args = []; sort = 2 }
     ∷ []
 
--- the terms that the rules are written with
+-- the terms that the rules are written with: zero
 abbrev pub level_zero : Term
 level_zero = con (symbol 5) nil
 
+-- up over a term
 abbrev pub up : Term → Term
 up t = con (symbol 6) (t ▸ nil)
 
+-- meet of two terms
 abbrev pub meet : Term → Term → Term
 meet a b = fun (own 7) (a ▸ b ▸ nil)
 
+-- half of a term
 abbrev pub half : Term → Term
 half a = fun (own 10) (a ▸ nil)
 
+-- loop, which has no arguments
 abbrev pub loop : Term
 loop = fun (own 11) nil
 
+-- true
 abbrev pub true_term : Term
 true_term = truth true
 
+-- false
 abbrev pub false_term : Term
 false_term = truth false
 
@@ -171,7 +177,7 @@ pub record Judged : Type 0 where
   pub half_tree_is : TreeFor half_book 10 half_tree
   pub half_incomplete : (n : Node) → TreeFor half_book 10 n → CompleteFor half_book 10 n → ⊥
 
--- The promises at the meet book, with nothing left to assume.
+-- The promises at the meet book, of which nothing is left to assume; that sorts are kept still takes a sound number kind.
 pub record MeetHolds : Type 0 where
   pub moves_are_steps : (M : Meaning) (e : Environment) (t : Term) (k : ℕ) → Sorted (levels []) e t k → (m : Move) → φ M meet_book t ≡ Some m
       → StepAt M meet_book m.position m.cause t m.next

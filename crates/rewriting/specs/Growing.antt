@@ -34,7 +34,7 @@ sole_open ps (r ∷ []) = cond (all_variables ps r) (Some r) None
 sole_open ps (r ∷ q ∷ rs) = None
 
 -- the positions of m arguments below p, from the argument i on
--- Counted with suc, as positions are taken apart; the library's range counts with + 1.
+-- Counted with suc, as positions are taken apart; the range of Rattle's library counts with + 1.
 abbrev pub below : List ℕ → ℕ → ℕ → List (List ℕ)
 below p i zero = []
 below p i (suc m) = (p ++ (i ∷ [])) ∷ below p (suc i) m
@@ -70,7 +70,7 @@ pub data Reached (B : Book) (f most : ℕ) : ℕ → List (List ℕ) → List Ru
       → Reached B f most n (opened_under B.signature ps p c) (filter (has_at p c) rs)
 
 -- how many nodes the rules that remain pay for: one for each symbol of a left side that is not yet in the pattern, and one more
--- Summed from the first rule on, so that it computes where the rules are taken apart; the library's sum_by adds up from the left.
+-- Summed from the first rule on, so that it computes where the rules are taken apart; sum_by of Rattle's library adds up from the left.
 abbrev pub paid : ℕ → ℕ → List Rule → ℕ
 paid most n [] = 0
 paid most n (r ∷ rs) = (size (left_side r) + n - most) + paid most n rs

@@ -39,7 +39,7 @@ abbrev mutual
   all_rules_in no_child = []
   all_rules_in (child c n ns) = rules_in n ++ all_rules_in ns
 
--- Patterns: a function over constructor terms in variables that are all different.
+-- A pattern is a function over constructor terms in variables that are all different. It has no definition of its own: call_of makes the first, refined the others.
 
 -- two terms are variants: each is an instance of the other
 abbrev pub Variant : Term → Term → Type 0

@@ -67,7 +67,7 @@ pub fn judged_examples()
     ensures { Judged }
 {}
 
-// The promises at one book, with nothing left to assume.
+// The promises at one book, of which nothing is left to assume.
 #[tactic(auto, using(crate::proofs::Examples::meet_holds))]
 pub fn meet_holds()
     ensures { MeetHolds }

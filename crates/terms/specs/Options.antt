@@ -1,7 +1,7 @@
 -- What comes of an answer that may be missing, and of places in a word. Assumes nothing.
 use Rattle.std.specs.Prelude.{ℕ, ◌+◌, Bool, false, Some, None, Option}
 
--- go on with what is there; the library's option_and_then with what is there put first
+-- go on with what is there; option_and_then of Rattle's library with what is there put first
 abbrev pub onward : {A B : Type 0} → Option A → (A → Option B) → Option B
 onward None f = None
 onward (Some a) f = f a

@@ -64,12 +64,12 @@ Stands S (head (cell n)) = n < 2 ^ 32
 Stands S (head (symbol s)) = Declared S s true
 Stands S (call f) = Declared S (fn_number f) false × (fn_of (fn_number f) ≡ f)
 
--- the root that a letter is; an undeclared symbol is none
+-- the root of the symbol s, declared as a constructor or not
 abbrev pub symbol_root : ℕ → Bool → Root
 symbol_root s true = head (symbol s)
 symbol_root s false = call (fn_of s)
 
--- the root that a letter is under a signature
+-- the root that a letter is under a signature; an undeclared symbol is none
 abbrev pub letter_root : Signature → Letter → Option Root
 letter_root S (Cell n) = Some (head (cell n))
 letter_root S (Symbol s) = option_map (λ d. symbol_root s (is_constructor d.role)) (slice_get S.symbols s)

@@ -4,7 +4,7 @@ use Rattle.terms.specs.declared.signature.Role.{Role}
 use Rattle.terms.specs.declared.signature.Role.TheVariants.{Constructor, Operation}
 use Rattle.terms.specs.Names.{find_name}
 
--- a symbol's name, its role, the sorts of its arguments and its own sort
+-- a symbol's name, its role, the sorts of its arguments and its sort
 pub record Declaration : Type 0 where
   pub name : List ℕ
   pub role : Role

@@ -19,12 +19,12 @@ abbrev pub sort_in : Option Declaration → ℕ
 sort_in None = 0
 sort_in (Some d) = d.sort
 
--- a constructor's own sort; a cell's is number
+-- a constructor's sort; a cell's is number
 abbrev pub head_sort : Signature → Head → ℕ
 head_sort S (cell n) = 0
 head_sort S (symbol s) = sort_in (slice_get S.symbols s)
 
--- a function's own sort
+-- a function's sort
 abbrev pub fn_sort : Signature → Fn → ℕ
 fn_sort S f = sort_in (slice_get S.symbols (fn_number f))
 
@@ -52,17 +52,19 @@ root_sort S e (call f) = Some (fn_sort S f)
 abbrev pub sort_of : Signature → Environment → ℕ → Option ℕ
 sort_of S e x = onward (root_of S x) (root_sort S e)
 
--- each cell is lawful
+-- a constructor that is a cell is lawful; a symbol is not asked
 abbrev pub lawful_head : (ℕ → Bool) → Head → Type 0
 lawful_head lawful (cell n) = lawful n ≡ true
 lawful_head lawful (symbol s) = Unit {0}
 
+-- each cell of a term is lawful
 abbrev mutual
   pub Lawful : (ℕ → Bool) → Term → Type 0
   Lawful lawful (var v) = Unit {0}
   Lawful lawful (con c ts) = lawful_head lawful c × AllLawful lawful ts
   Lawful lawful (fun f ts) = AllLawful lawful ts
 
+  -- and so for terms in a row
   pub AllLawful : (ℕ → Bool) → Terms → Type 0
   AllLawful lawful nil = Unit {0}
   AllLawful lawful (t ▸ ts) = Lawful lawful t × AllLawful lawful ts

@@ -20,7 +20,7 @@ pub enum Role {
     Operation,
 }
 
-// A declared symbol: its name and role, the sorts of its arguments, its own sort.
+// A declared symbol: its name and role, the sorts of its arguments, its sort.
 #[derive(Clone, Copy)]
 struct Entry {
     name: Name,

@@ -1,14 +1,14 @@
 // Four drafts are checked; two of them are books, shown with their trees.
 use crate::letters::{LEVEL, TRUTH, UP, X, ZERO};
-use crate::spelling::{Indent, Position, Symbol};
+use crate::spelling::{Indent, Letters, Position, Symbol};
 use books::book::Book;
 use drafts::draft::Draft;
 use std::io;
 use terms::letter::{FALSE, SYMBOLS, TRUE};
-use terms::signature::{MOST_SYMBOLS, Signature};
+use terms::signature::MOST_SYMBOLS;
 use trees::node::Kind;
 
-// No tree of the tour is deeper.
+// What lies deeper is not printed; no tree of the tour does.
 const DEEPEST: usize = 8;
 
 // pick(A, true) = A; pick(true, false) = false; pick(false, false) = true
@@ -47,70 +47,62 @@ fn half() -> anyhow::Result<Draft> {
     Ok(draft)
 }
 
-// A book with the names of its symbols.
-#[derive(Clone, Copy)]
-struct Shown<'a> {
-    book: &'a Book,
-    signature: &'a Signature,
+// A symbol of a book, to be printed by its name.
+fn named(book: &Book, symbol: u8) -> Symbol<'_> {
+    let signature = book.declared().signature;
+    Symbol { signature, symbol }
 }
 
-impl Shown<'_> {
-    fn symbol(&self, symbol: u8) -> Symbol<'_> {
-        Symbol {
-            signature: self.signature,
-            symbol,
-        }
-    }
+// A rule by its number, with its sides.
+fn show_rule(rt: &HostRuntime, book: &Book, rule: usize) -> io::Result<()> {
+    let rules = &book.rules;
+    let (Some(left), Some(right)) = (rules.left(rule), rules.right(rule)) else {
+        return println!(rt; ": no rule");
+    };
+    let signature = book.declared().signature;
+    let left = Letters::whole(signature, left);
+    let right = Letters::whole(signature, right);
+    println!(rt; ": rule {rule},{left} ={right}")
 }
 
-// The tree below a place: a rule by its number, or a branch at a position with a line for each child.
+// The tree below a place: a rule, or a branch at a position with a line for each child.
 #[cycle(show_children_show_tree)]
-fn show_tree(rt: &HostRuntime, shown: Shown<'_>, place: usize, indent: usize) -> io::Result<()> {
-    let Some(node) = shown.book.rules.node(place) else {
-        return println!(rt; ": nothing");
+fn show_tree(rt: &HostRuntime, book: &Book, place: usize, indent: usize) -> io::Result<()> {
+    let Some(node) = book.rules.node(place) else {
+        return println!(rt; ": no node");
     };
     match node.kind {
-        Kind::Rule(rule) => println!(rt; ": rule {rule}"),
+        Kind::Rule(rule) => show_rule(rt, book, rule),
         Kind::Branch(path, _) => {
             println!(rt; ": at {}", Position(path.steps()))?;
-            show_children(rt, shown, place, indent)
+            show_children(rt, book, place, indent)
         }
     }
 }
 
 #[cycle(show_children_show_tree)]
-fn show_children(
-    rt: &HostRuntime,
-    shown: Shown<'_>,
-    place: usize,
-    indent: usize,
-) -> io::Result<()> {
+fn show_children(rt: &HostRuntime, book: &Book, place: usize, indent: usize) -> io::Result<()> {
     if indent >= DEEPEST {
-        return Ok(());
+        return println!(rt; "{} ..", Indent(indent));
     }
-    let rules = &shown.book.rules;
+    let rules = &book.rules;
     // The cast loses nothing, here and in `show_book`: there are at most 96 symbols.
     let children = (0..MOST_SYMBOLS as u8).filter_map(|s| rules
         .child(place, s)
         .map(|child| (s, child)));
     for (symbol, child) in children {
-        print!(rt; "{} {}", Indent(indent), shown.symbol(symbol))?;
-        show_tree(rt, shown, child, indent + 1)?;
+        print!(rt; "{} {}", Indent(indent), named(book, symbol))?;
+        show_tree(rt, book, child, indent + 1)?;
     }
     Ok(())
 }
 
 // Every function with its tree.
 fn show_book(rt: &HostRuntime, book: &Book) -> io::Result<()> {
-    let signature = book.signature();
-    let shown = Shown {
-        book,
-        signature: &signature,
-    };
     let roots = (0..MOST_SYMBOLS as u8).filter_map(|s| book.rules.root(s).map(|root| (s, root)));
     for (symbol, root) in roots {
-        print!(rt; "{} {}", Indent(1), shown.symbol(symbol))?;
-        show_tree(rt, shown, root, 2)?;
+        print!(rt; "{} {}", Indent(1), named(book, symbol))?;
+        show_tree(rt, book, root, 2)?;
     }
     Ok(())
 }
@@ -138,7 +130,7 @@ fn tell(rt: &HostRuntime, name: &str, draft: &Draft) -> io::Result<()> {
 // The draft of meet and three more, and what Check says of them.
 pub fn show_checks(rt: &HostRuntime, meet: &Draft) -> anyhow::Result<()> {
     println!(rt;
-        "Drafts are checked; a book is shown with its trees, by place, constructor and rule."
+        "Drafts are checked; a book is shown with its trees, by position, constructor and rule."
     )?;
     tell(rt, "meet", meet)?;
     tell(rt, "pick", &pick()?)?;

@@ -1,4 +1,4 @@
-// Three words taken apart, and three that are no terms.
+// Three words taken apart, and three with a fault.
 use crate::letters::{MEET, UP, X, ZERO};
 use crate::spelling::{Letters, Position};
 use anyhow::Context;
@@ -7,7 +7,6 @@ use terms::letter::{ATMOST, MINUS, PLUS, TRUE};
 use terms::name::Name;
 use terms::signature::Signature;
 use words::checks::word_fault;
-use words::part::Part;
 use words::parts::part;
 
 // No word of the tour may be longer.
@@ -53,16 +52,9 @@ fn take_apart(
     Ok(())
 }
 
-// Why a word is no closed term of its sorts.
+// Why a word is no closed, sort-correct term.
 fn show_fault(rt: &HostRuntime, signature: &Signature, word: &[u64]) -> io::Result<()> {
-    let letters = Letters {
-        signature,
-        word,
-        part: Part {
-            start: 0,
-            len: word.len(),
-        },
-    };
+    let letters = Letters::whole(signature, word);
     let Some(fault) = word_fault(signature, MOST, word) else {
         return println!(rt; "no fault:{letters}");
     };
@@ -93,7 +85,9 @@ pub fn show_words(rt: &HostRuntime) -> anyhow::Result<()> {
         &[ATMOST, PLUS, 1, 2, 4],
         &[&[], &[1], &[1, 2], &[2]],
     )?;
-    println!(rt; "Words that are no closed terms name the first letter at fault.")?;
+    println!(rt;
+        "Words that are no closed, sort-correct terms have a fault, at a letter or at their end."
+    )?;
     show_fault(rt, &signature, &[UP, X])?;
     show_fault(rt, &signature, &[MEET, ZERO])?;
     show_fault(rt, &signature, &[PLUS, TRUE, 1])?;

@@ -49,6 +49,20 @@ pub struct Letters<'a> {
     pub part: Part,
 }
 
+impl<'a> Letters<'a> {
+    // All of a word.
+    pub fn whole(signature: &'a Signature, word: &'a [u64]) -> Letters<'a> {
+        Letters {
+            signature,
+            word,
+            part: Part {
+                start: 0,
+                len: word.len(),
+            },
+        }
+    }
+}
+
 impl fmt::Display for Letters<'_> {
     fn fmt<W: fmt::Write>(&self, f: &mut fmt::Formatter<W>) -> fmt::Result {
         for letter in self.word.iter().skip(self.part.start).take(self.part.len) {

@@ -1,5 +1,5 @@
 -- A branch of a tree that is grown from a draft.
-use Rattle.std.proofs.Common.{◌≡◌, ℕ, zero, suc, ◌+◌, ◌-◌, ◌<◌, ◌≤◌, Bool, true, ◌&&◌, List, [], ◌∷◌, ◌++◌, map, length, get_or, take, Some, None, Option, sym, refl, ap, ◌∙◌, subst, ap₂, arith, filter}
+use Rattle.std.proofs.Common.{◌≡◌, ℕ, zero, suc, ◌+◌, ◌-◌, ◌<◌, ◌≤◌, Bool, true, ◌&&◌, List, [], ◌∷◌, ◌++◌, map, length, get_or, take, Some, None, Option, sym, refl, ap, ◌∙◌, subst, ap₂, append-nil, arith, filter}
 use mathlib.Core.List.{Memᴰ}
 use Rattle.std.specs.List.{slice_get}
 use Rattle.terms.specs.declared.signature.Entry.{Entry}
@@ -28,16 +28,18 @@ use Rattle.trees.specs.declared.store.Store.{Store}
 use Rattle.trees.specs.Views.{steps_of}
 use Rattle.trees.specs.Rows.{chosen, is_head, heads_at, new_head, new_heads, there, IsPlace}
 use Rattle.trees.specs.Sharing.{IsShared}
-use Rattle.trees.specs.Nodes.{Is, Leads}
-use Rattle.trees.specs.Growth.{nodes_of, IsGrown, NodesAdded, AllBelow, AtStage, cost, Added}
+use Rattle.trees.specs.Nodes.{Linked, Leads}
+use Rattle.trees.specs.Layout.{SeenNode, seen_kind, written, children_written}
+use Rattle.trees.specs.Growth.{nodes_of, IsGrown, stored, AtStage, cost, Fits}
 use Rattle.trees.proofs.Drafted.{draft_short}
 use Rattle.trees.proofs.Scanned.{covers_same}
+use Rattle.trees.proofs.Layouts.{children_linked}
 use Rattle.trees.proofs.Seeking.{linked_leads}
 use Rattle.trees.proofs.LeftSides.{draft_cells}
 use Rattle.trees.proofs.Chosen.{chosen_kept, constructors_new}
 use Rattle.trees.proofs.Told.{place_none, shared_some}
 use Rattle.trees.proofs.Growths.{under, GrownTo, grown_none, grown_skip, grown_more, symbol_met, room_left, due}
-use Rattle.trees.proofs.Stages.{fuel_left, open_room, child_stage, branch_paid, shared_short, child_missing, branch_grown, branch_counted, children_added, child_added}
+use Rattle.trees.proofs.Stages.{fuel_left, open_room, child_stage, branch_paid, shared_short, child_missing, branch_grown, children_added, child_added}
 
 -- a symbol takes at most four arguments
 pub few_arguments : (g : Table) (s : ℕ) → length (head_args (view g) (symbol s)) ≤ 4
@@ -106,24 +108,25 @@ module _ {d : Draft} {ps : List (List ℕ)} {m : List Bool} {n : ℕ} {s : Share
 
   -- all children: the look-up finds their constructors, which tells whether none is missing
   pub branch_leads : {a c : Store} {first : Option ℕ} {complete : Bool} → GrownTo B ps m n p s.heads 0 a c first complete → Leads (nodes_of c) first s.heads
-  branch_leads h = linked_leads s.heads h.linked (children_heads B.signature (under B.signature (n - 1) ps rs p) (map symbol (new_heads [] s.heads)) h.subtrees h.built)
+  branch_leads {a} {c} {first} h =
+      let w = children_written (stored B.rules a) h.subtrees in
+      let l : Linked B.rules (nodes_of c) w.1 h.subtrees = children_linked B.rules (nodes_of c) (stored B.rules a) [] h.subtrees (ap (λ (z : List SeenNode × Option ℕ). z.0) h.wrote ∙ sym (append-nil w.0)) in
+      linked_leads s.heads (subst (λ (o : Option ℕ). Linked B.rules (nodes_of c) o h.subtrees) (sym (ap (λ (z : List SeenNode × Option ℕ). z.1) h.wrote)) l)
+      (children_heads B.signature (under B.signature (n - 1) ps rs p) (map symbol (new_heads [] s.heads)) h.subtrees h.built)
 
   pub branch_covered : (g : Table) (covered : Bool) → view g ≡ B.signature → covered ≡ covers (view g) (there s.heads) → covered ≡ covers B.signature (constructors_at p rs)
   branch_covered g covered e h = h ∙ ap (λ (S : Signature). covers S (there s.heads)) e ∙ covers_same B.signature s.heads ∙ ap (covers B.signature) (sym all_new)
 
   -- the branch that they come to
   pub branch_ends : {a c : Store} {first : Option ℕ} {complete : Bool} (covered : Bool) → covered ≡ covers B.signature (constructors_at p rs) → GrownTo B ps m n p s.heads 0 a c first complete
-      → IsGrown B.signature B.rules (nodes_of c) (grow B.signature n ps rs) (Some (record { kind = Branch s.path first; complete = covered && complete }))
+      → IsGrown B.signature B.rules a c (grow B.signature n ps rs) (Some (record { kind = Branch s.path first; complete = covered && complete }))
   branch_ends {a} {c} {first} {complete} covered e h = branch_grown B ps m n p s.heads a c s.path first complete covered e branch_fuel b.none b.shared refl all_new h
-
-  pub branch_counts : {a c : Store} {first : Option ℕ} {complete : Bool} → GrownTo B ps m n p s.heads 0 a c first complete → NodesAdded a c (grow B.signature n ps rs)
-  branch_counts {a} {c} {first} {complete} h = branch_counted B ps m n p s.heads a c first complete branch_fuel b.none b.shared all_new h
 
   -- what is paid for all children
   pub paid_all : suc (paid_under longest_side (n - 1) p rs (constructors_at p rs)) ≤ cost n rs
   paid_all = branch_paid B (draft_short d) n ps rs b.stage p b.shared
 
-  pub branch_added : {a c : Store} {first : Option ℕ} {complete : Bool} → GrownTo B ps m n p s.heads 0 a c first complete → Added a c (cost n rs)
+  pub branch_added : {a c : Store} {first : Option ℕ} {complete : Bool} → GrownTo B ps m n p s.heads 0 a c first complete → Fits a c (cost n rs)
   branch_added {a} {c} {first} {complete} h = children_added B ps m n p s.heads 0 a c first complete (cost n rs) paid_all h
 
   -- a new symbol
@@ -167,19 +170,19 @@ module _ {d : Draft} {ps : List (List ℕ)} {m : List Bool} {n : ℕ} {s : Share
     new_room {a} {c} {first} {complete} = room_left B ps m n p s.heads i x a c first complete h.after below h.new
 
     -- what is added with it
-    pub new_added : {qs : List (List ℕ)} {ms : List Bool} {a c e : Store} {first : Option ℕ} {complete : Bool} → NewChild d ps m n s x qs ms → GrownTo B ps m n p s.heads i a c first complete
-        → Added c e (cost (n - 1) (chosen ms B.rules)) → Added a e (cost n rs)
-    new_added {qs} {ms} {a} {c} {e} {first} {complete} z g w =
-        child_added B ps m n p s.heads i a c e first complete (cost n rs) (due B ps m n p s.heads x) paid_all g (new_room g) (subst (Added c e) z.costs w)
+    pub new_added : {qs : List (List ℕ)} {ms : List Bool} {a c : Store} {first : Option ℕ} {complete : Bool} (e : Store) → NewChild d ps m n s x qs ms → GrownTo B ps m n p s.heads i a c first complete
+        → Fits c e (cost (n - 1) (chosen ms B.rules)) → Fits a e (cost n rs)
+    new_added {qs} {ms} {a} {c} {first} {complete} e z g w =
+        child_added B ps m n p s.heads i a c e first complete (cost n rs) (due B ps m n p s.heads x) paid_all g (new_room g) (subst (Fits c e) z.costs w)
 
     -- without its tree there is none
     pub new_missing : {qs : List (List ℕ)} {ms : List Bool} → NewChild d ps m n s x qs ms → grow B.signature (n - 1) qs (chosen ms B.rules) ≡ None → grow B.signature n ps rs ≡ None
     new_missing z e = child_missing B ps m n p s.heads (symbol x) branch_fuel b.none b.shared z.met (sym z.tree ∙ e)
 
     -- with it there is one child more
-    pub new_more : {qs : List (List ℕ)} {ms : List Bool} {a c e g : Store} {first : Option ℕ} {complete : Bool} (k : Grown) (node : Node) (t : Tree) → NewChild d ps m n s x qs ms → GrownTo B ps m n p s.heads i a c first complete
-        → Added c e (cost (n - 1) (chosen ms B.rules)) → NodesAdded c e (grow B.signature (n - 1) qs (chosen ms B.rules)) → AllBelow c e (Some k) → grow B.signature (n - 1) qs (chosen ms B.rules) ≡ Some t → Is B.rules (nodes_of e) k.kind t → k.complete ≡ is_complete B.signature t
+    pub new_more : {qs : List (List ℕ)} {ms : List Bool} {a c g : Store} {first : Option ℕ} {complete : Bool} (e : Store) (k : Grown) (node : Node) (t : Tree) → NewChild d ps m n s x qs ms → GrownTo B ps m n p s.heads i a c first complete
+        → Fits c e (cost (n - 1) (chosen ms B.rules)) → grow B.signature (n - 1) qs (chosen ms B.rules) ≡ Some t → (stored B.rules e, seen_kind B.rules k.kind) ≡ written (stored B.rules c) t → k.complete ≡ is_complete B.signature t
         → nodes_of g ≡ nodes_of e ++ (node ∷ []) → node.symbol ≡ x → node.kind ≡ k.kind → node.next ≡ first
         → GrownTo B ps m n p s.heads (i - 1) a g (Some (length (nodes_of e))) (complete && k.complete)
-    new_more {qs} {ms} {a} {c} {e} {g} {first} {complete} k node t z l w many inner r is told pushed =
-        grown_more B ps m n p s.heads i x a c e g first complete k node t h.after below h.new l (subst (Added c e) z.costs w) (subst (NodesAdded c e) r many) inner (sym z.tree ∙ r) is told pushed
+    new_more {qs} {ms} {a} {c} {g} {first} {complete} e k node t z l w r wrote told pushed =
+        grown_more B ps m n p s.heads i x a c e g first complete k node t h.after below h.new l (subst (Fits c e) z.costs w) (sym z.tree ∙ r) wrote told pushed

@@ -1,9 +1,8 @@
 -- Trees grow node by node.
-use Rattle.std.proofs.Common.{◌≡◌, ℕ, zero, suc, ◌+◌, ◌-◌, ◌<◌, ◌≤◌, Bool, true, false, ◌&&◌, ◌⊎◌, List, [], ◌∷◌, ◌++◌, map, length, get_or, take, drop, Some, None, Option, sym, refl, ap, ◌∙◌, subst, ap₂, inl, inr, append_assoc, append-nil, arith, option_map, filter}
+use Rattle.std.proofs.Common.{◌≡◌, ℕ, zero, suc, ◌+◌, ◌-◌, ◌<◌, ◌≤◌, Bool, true, false, ◌&&◌, List, [], ◌∷◌, ◌++◌, map, length, get_or, take, drop, Some, None, Option, sym, refl, ap, ◌∙◌, subst, ap₂, append_assoc, append-nil, arith, option_map, filter}
 use mathlib.Core.List.Memᴰ
 use mathlib.Core.List.{Memᴰ}
-use Rattle.std.proofs.lemmas.List.{map-append, length-append, take_all, drop_all, take_more, drop_more, take-append-drop}
-use Rattle.std.proofs.lemmas.Bool.{cases_lt}
+use Rattle.std.proofs.lemmas.List.{map-append, length-append, length-map, take_all, drop_all, take_more, drop_more, take-append-drop}
 use Rattle.terms.specs.Terms.{Head, symbol}
 use Rattle.terms.specs.Options.{onward}
 use Rattle.terms.specs.Signatures.{Signature}
@@ -18,48 +17,26 @@ use Rattle.trees.specs.declared.node.Kind.{Kind}
 use Rattle.trees.specs.declared.grown.Grown.{Grown}
 use Rattle.trees.specs.declared.store.Store.{Store}
 use Rattle.trees.specs.Rows.{chosen, put, new_head, new_heads}
-use Rattle.trees.specs.Nodes.{Before, first_child, Is, is_rule, is_branch, Linked, no_link, link, Reaches, reach_here, reach_below, reach_next}
-use Rattle.trees.specs.Growth.{nodes_of, size, sizes, AllBelow, cost, Added}
-use Rattle.trees.proofs.Places.{nth_below, nth_front, nth_last}
-
--- a tree in an array of nodes stays where nodes are added
-mutual
-  pub is_still : {rs : List Rule} {ns : List Node} (more : List Node) {k : Kind} {t : Tree} → Is rs ns k t → Is rs (ns ++ more) k t
-  is_still more (is_rule e) = is_rule e
-  is_still more (is_branch l) = is_branch (linked_still more l)
-
-  pub linked_still : {rs : List Rule} {ns : List Node} (more : List Node) {o : Option ℕ} {ts : Children} → Linked rs ns o ts → Linked rs (ns ++ more) o ts
-  linked_still more no_link = no_link
-  linked_still {ns = ns} more (link {i = i} e f b h l) = link (nth_front ns more i e) f b (is_still more h) (linked_still more l)
-
-pub reach_still : {ns : List Node} (more : List Node) {j : ℕ} {o : Option ℕ} → Reaches ns j o → Reaches (ns ++ more) j o
-reach_still more reach_here = reach_here
-reach_still {ns = ns} more (reach_below {i = i} e b r) = reach_below (nth_front ns more i e) b (reach_still more r)
-reach_still {ns = ns} more (reach_next {i = i} e b r) = reach_next (nth_front ns more i e) b (reach_still more r)
-
--- a node after all, with its first child and the next of its parent: it reaches what these reach
-reach_more : (a : ℕ) (bs cs more : List Node) (node : Node) (kind : Kind) (first : Option ℕ) → cs ≡ bs ++ more → node.kind ≡ kind → node.next ≡ first → Before (first_child kind) (length cs) → Before first (length cs)
-    → ((j : ℕ) → a ≤ j → j < length bs → Reaches bs j first) → ((j : ℕ) → length bs ≤ j → j < length cs → Reaches cs j (first_child kind))
-    → (j : ℕ) → a ≤ j → j < length cs + 1 → Reaches (cs ++ (node ∷ [])) j (Some (length cs))
-reach_more a bs cs more node kind first e k x b d h g j l m = go (cases_lt j (length bs)) (cases_lt j (length cs))
-  where
-    go : (j < length bs) ⊎ (length bs ≤ j) → (j < length cs) ⊎ (length cs ≤ j) → Reaches (cs ++ (node ∷ [])) j (Some (length cs))
-    go (inl p) q =
-        let r : Reaches cs j first = subst (λ (ns : List Node). Reaches ns j first) (sym e) (reach_still more (h j l p)) in
-        reach_next (nth_last cs node) (subst (λ (o : Option ℕ). Before o (length cs)) (sym x) d) (subst (Reaches (cs ++ (node ∷ [])) j) (sym x) (reach_still (node ∷ []) r))
-    go (inr p) (inl q) =
-        reach_below (nth_last cs node) (subst (λ (y : Kind). Before (first_child y) (length cs)) (sym k) b)
-        (subst (λ (y : Kind). Reaches (cs ++ (node ∷ [])) j (first_child y)) (sym k) (reach_still (node ∷ []) (g j p q)))
-    go (inr p) (inr q) = let z : j ≡ length cs = omega arith in subst (λ (y : ℕ). Reaches (cs ++ (node ∷ [])) j (Some y)) z reach_here
+use Rattle.trees.specs.Nodes.{Before, Linked, no_link, link}
+use Rattle.trees.specs.Layout.{SeenKind, SeenNode, seen_kind, seen_node, written, children_written}
+use Rattle.trees.specs.Growth.{nodes_of, stored, cost, Fits}
+use Rattle.trees.proofs.Places.{nth_below}
 
 -- links go to places that are there
 pub linked_before : {rs : List Rule} {ns : List Node} {o : Option ℕ} {ts : Children} → Linked rs ns o ts → Before o (length ns)
 linked_before no_link = tt
 linked_before {ns = ns} (link {i = i} e f b h l) = nth_below ns i e
 
-pub is_before : {rs : List Rule} {ns : List Node} {k : Kind} {t : Tree} → Is rs ns k t → Before (first_child k) (length ns)
-is_before (is_rule e) = tt
-is_before (is_branch l) = linked_before l
+-- a child's node after all: its tree is written, and it is linked before the others
+wrote_more : (R : List Rule) (before : List SeenNode) {s : ℕ} (bs cs ds : List Node) (first : Option ℕ) (node : Node) (t : Tree) (ts : Children) → (map (seen_node R) bs, first) ≡ children_written before ts
+    → (map (seen_node R) cs, seen_kind R node.kind) ≡ written (map (seen_node R) bs) t → ds ≡ cs ++ (node ∷ []) → node.symbol ≡ s → node.next ≡ first
+    → (map (seen_node R) ds, Some (length cs)) ≡ children_written before (child (symbol s) t ts)
+wrote_more R before {s} bs cs ds first node t ts e f pushed y next =
+    let pair : List SeenNode → ℕ → List SeenNode × Option ℕ = λ vs n. (vs, Some n) in
+    let put : Option ℕ → List SeenNode × SeenKind → List SeenNode × Option ℕ = λ o z. (z.0 ++ (record { under = symbol s; kind = z.1; next = o } ∷ []), Some (length z.0)) in
+    let one : ℕ → Option ℕ → List SeenNode = λ x o. map (seen_node R) cs ++ (record { under = symbol x; kind = seen_kind R node.kind; next = o } ∷ []) in
+    ap₂ pair (ap (map (seen_node R)) pushed ∙ map-append (seen_node R) cs (node ∷ []) ∙ ap₂ one y next) (sym (length-map cs (seen_node R)))
+    ∙ ap (put first) f ∙ ap (λ (w : List SeenNode × Option ℕ). put w.1 (written w.0 t)) e
 
 -- new symbols of two parts of a list
 pub new_heads_split : (before xs ys : List (Option ℕ)) → new_heads before (xs ++ ys) ≡ new_heads before xs ++ new_heads (before ++ xs) ys
@@ -115,28 +92,14 @@ module _ (S : Signature) where
   pub record SoFar (R : List Rule) (tree : Head → Option Tree) (done : List Head) (owed most : ℕ) (a b : Store) (first : Option ℕ) (complete : Bool) : Type 0 where
     pub subtrees : Children
     pub built : children tree done ≡ Some subtrees
-    pub linked : Linked R (nodes_of b) first subtrees
+    pub wrote : (stored R b, first) ≡ children_written (stored R a) subtrees
     pub told : complete ≡ are_complete S subtrees
-    pub more : List Node
-    pub after : nodes_of b ≡ nodes_of a ++ more
-    pub reached : (j : ℕ) → length (nodes_of a) ≤ j → j < length (nodes_of b) → Reaches (nodes_of b) j first
-    pub counted : length (nodes_of b) ≡ length (nodes_of a) + sizes subtrees
     pub within : length (nodes_of b) + owed ≤ length (nodes_of a) + most
 
   -- no child yet
   pub none_so_far : (R : List Rule) (tree : Head → Option Tree) (owed most : ℕ) (a : Store) → owed ≤ most
       → SoFar R tree [] owed most a a None true
-  none_so_far R tree owed most a l = record {
-    subtrees = no_child;
-    built = refl;
-    linked = no_link;
-    told = refl;
-    more = [];
-    after = sym (append-nil (nodes_of a));
-    reached = λ j l k. absurd (omega arith);
-    counted = omega arith;
-    within = omega arith;
-  }
+  none_so_far R tree owed most a l = record { subtrees = no_child; built = refl; wrote = refl; told = refl; within = omega arith }
 
   and_swap : (b d : Bool) → (b && d) ≡ (d && b)
   and_swap true true = refl
@@ -147,31 +110,17 @@ module _ (S : Signature) where
   -- one child more
   pub one_more : (R : List Rule) (tree : Head → Option Tree) (done : List Head) (owed most s due : ℕ) (a b c d : Store) (first : Option ℕ) (complete : Bool) (g : Grown) (node : Node) (t : Tree)
       → SoFar R tree done (owed + due) most a b first complete
-      → Added b c due → length (nodes_of c) + 1 ≡ length (nodes_of b) + size t → AllBelow b c (Some g) → tree (symbol s) ≡ Some t → Is R (nodes_of c) g.kind t → g.complete ≡ is_complete S t
+      → Fits b c due → tree (symbol s) ≡ Some t → (stored R c, seen_kind R g.kind) ≡ written (stored R b) t → g.complete ≡ is_complete S t
       → nodes_of d ≡ nodes_of c ++ (node ∷ []) → node.symbol ≡ s → node.kind ≡ g.kind → node.next ≡ first
       → SoFar R tree (symbol s ∷ done) owed most a d (Some (length (nodes_of c))) (complete && g.complete)
-  one_more R tree done owed most s due a b c d first complete g node t h z many inner e i k pushed y kind next =
-      let l = linked_still z.more h.linked in
-      let m : Linked R (nodes_of c) first h.subtrees = subst (λ (ns : List Node). Linked R ns first h.subtrees) (sym z.after) l in
-      let ns = nodes_of c ++ (node ∷ []) in
-      let here : Linked R ns (Some (length (nodes_of c))) (child (symbol node.symbol) t h.subtrees) =
-      link (nth_last (nodes_of c) node) (subst (λ (q : Kind). Before (first_child q) (length (nodes_of c))) (sym kind) (is_before i)) (subst (λ (o : Option ℕ). Before o (length (nodes_of c))) (sym next) (linked_before m))
-      (subst (λ (q : Kind). Is R ns q t) (sym kind) (is_still (node ∷ []) i)) (subst (λ (o : Option ℕ). Linked R ns o h.subtrees) (sym next) (linked_still (node ∷ []) m)) in
+  one_more R tree done owed most s due a b c d first complete g node t h f e wrote k pushed y kind next =
       let w = h.within in
-      let f = z.fewer in
       let one : length (nodes_of d) ≡ length (nodes_of c) + 1 = ap length pushed ∙ length-append (nodes_of c) (node ∷ []) in
       record {
         subtrees = child (symbol s) t h.subtrees;
         built = children_more tree (symbol s) done e h.built;
-        linked = subst (λ (vs : List Node). Linked R vs (Some (length (nodes_of c))) (child (symbol s) t h.subtrees)) (sym pushed)
-            (subst (λ (x : ℕ). Linked R ns (Some (length (nodes_of c))) (child (symbol x) t h.subtrees)) y here);
+        wrote = wrote_more R (stored R a) (nodes_of b) (nodes_of c) (nodes_of d) first node t h.subtrees h.wrote (subst (λ (q : Kind). (stored R c, seen_kind R q) ≡ written (stored R b) t) (sym kind) wrote) pushed y next;
         told = ap (λ (x : Bool). x && g.complete) h.told ∙ and_swap (are_complete S h.subtrees) g.complete ∙ ap (λ (x : Bool). x && are_complete S h.subtrees) k;
-        more = h.more ++ (z.more ++ (node ∷ []));
-        after = pushed ∙ ap (λ (vs : List Node). vs ++ (node ∷ [])) (z.after ∙ ap (λ (vs : List Node). vs ++ z.more) h.after)
-            ∙ append_assoc (nodes_of a ++ h.more) z.more (node ∷ []) ∙ append_assoc (nodes_of a) h.more (z.more ++ (node ∷ []));
-        reached = λ j v u. subst (λ (vs : List Node). Reaches vs j (Some (length (nodes_of c)))) (sym pushed)
-            (reach_more (length (nodes_of a)) (nodes_of b) (nodes_of c) z.more node g.kind first z.after kind next (is_before i) (linked_before m) h.reached inner j v (omega (arith, one)));
-        counted = (let n = h.counted in omega arith);
         within = omega arith;
       }
 
@@ -251,12 +200,12 @@ module _ (B : Book) (ps : List (List ℕ)) (m : List Bool) (n : ℕ) (p : List �
 
   pub grown_more : (i s : ℕ) (a b c d : Store) (first : Option ℕ) (complete : Bool) (g : Grown) (node : Node) (t : Tree)
       → 0 < i → i ≤ length hs → Some s ≡ new_head (take (i - 1) hs) (get_or hs (i - 1) None) → GrownTo i a b first complete
-      → Added b c (due s) → length (nodes_of c) + 1 ≡ length (nodes_of b) + size t → AllBelow b c (Some g) → under B.signature (n - 1) ps left p (symbol s) ≡ Some t → Is B.rules (nodes_of c) g.kind t → g.complete ≡ is_complete B.signature t
+      → Fits b c (due s) → under B.signature (n - 1) ps left p (symbol s) ≡ Some t → (stored B.rules c, seen_kind B.rules g.kind) ≡ written (stored B.rules b) t → g.complete ≡ is_complete B.signature t
       → nodes_of d ≡ nodes_of c ++ (node ∷ []) → node.symbol ≡ s → node.kind ≡ g.kind → node.next ≡ first
       → GrownTo (i - 1) a d (Some (length (nodes_of c))) (complete && g.complete)
-  grown_more i s a b c d first complete g node t l k e h added many inner tree is told pushed y kind next =
+  grown_more i s a b c d first complete g node t l k e h fits tree wrote told pushed y kind next =
       let z = heads_step hs i (Some s) l k e in
       subst (λ (xs : List ℕ). SoFar B.signature B.rules (under B.signature (n - 1) ps left p) (map symbol xs) (owed (i - 1)) (paid_under longest_side (n - 1) p left all) a d (Some (length (nodes_of c))) (complete && g.complete)) (sym z.0)
       (one_more B.signature B.rules (under B.signature (n - 1) ps left p) (done i) (owed (i - 1)) (paid_under longest_side (n - 1) p left all) s (due s) a b c d first complete g node t
       (subst (λ (x : ℕ). SoFar B.signature B.rules (under B.signature (n - 1) ps left p) (done i) x (paid_under longest_side (n - 1) p left all) a b first complete) (owed_more i s l k e) h)
-      added many inner tree is told pushed y kind next)
+      fits tree wrote told pushed y kind next)

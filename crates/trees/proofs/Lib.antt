@@ -6,9 +6,12 @@ pub mod Chosen
 pub mod Scanned
 pub mod Drafted
 pub mod Told
+pub mod Layouts
+pub mod Laid
 pub mod Growths
 pub mod Seeking
 pub mod Shares
 pub mod Stages
 pub mod Branches
 pub mod Rooting
+pub mod Different

@@ -26,14 +26,9 @@ nth_mem (y ∷ xs) zero e = Memᴰ.head (cc)
 nth_mem (y ∷ xs) (suc i) e = Memᴰ.tail (nth_mem xs i e)
 
 -- of a list that goes on, is cut, mapped or written
-pub nth_front : {A : Type 0} (xs ys : List A) (i : ℕ) {x : A} → slice_get xs i ≡ Some x → slice_get (xs ++ ys) i ≡ Some x
-nth_front [] ys i e = absurd (zero_one (cc))
-nth_front (x ∷ xs) ys zero e = e
-nth_front (x ∷ xs) ys (suc i) e = nth_front xs ys i e
-
-pub nth_last : {A : Type 0} (xs : List A) (x : A) → slice_get (xs ++ (x ∷ [])) (length xs) ≡ Some x
-nth_last [] x = refl
-nth_last (y ∷ xs) x = nth_last xs x
+pub nth_at : {A : Type 0} (xs ys : List A) (x : A) → slice_get (xs ++ (x ∷ ys)) (length xs) ≡ Some x
+nth_at [] ys x = refl
+nth_at (y ∷ xs) ys x = nth_at xs ys x
 
 pub nth_map : {A B : Type 0} (f : A → B) (xs : List A) (i : ℕ) → slice_get (map f xs) i ≡ option_map f (slice_get xs i)
 nth_map f [] i = refl

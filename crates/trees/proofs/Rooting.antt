@@ -1,8 +1,7 @@
 -- The trees of a draft's functions, one after the other.
-use Rattle.std.proofs.Common.{◌≡◌, ℕ, zero, suc, ◌+◌, ◌<◌, ◌≤◌, Bool, true, false, ◌⊎◌, List, [], ◌∷◌, ◌++◌, length, replicate, drop, set, Some, None, Ok, Err, Option, Result, sym, refl, ap, ◌∙◌, subst, ap₂, inl, inr, append_assoc, append-nil, arith, option_map}
+use Rattle.std.proofs.Common.{◌≡◌, ℕ, zero, suc, ◌+◌, ◌<◌, ◌≤◌, Bool, true, false, List, [], ◌∷◌, ◌++◌, map, length, replicate, drop, set, Some, None, Ok, Err, Option, Result, sym, refl, ap, ◌∙◌, subst, ap₂, arith, option_map}
 use Rattle.std.specs.List.{slice_get}
-use Rattle.std.proofs.lemmas.List.{length-append, drop_all}
-use Rattle.std.proofs.lemmas.Bool.{cases_lt}
+use Rattle.std.proofs.lemmas.List.{map-append, length-append, length-map, drop_all}
 use Rattle.std.specs.Option.{option_or}
 use Rattle.terms.specs.declared.signature.Role.{Role}
 use Rattle.terms.specs.declared.signature.Role.TheVariants.{Constructor, Function, Operation}
@@ -29,42 +28,11 @@ use Rattle.trees.specs.declared.store.Store.{Store}
 use Rattle.trees.specs.declared.trees.Trees.{Trees}
 use Rattle.trees.specs.Checks.{function_role, judged, symbol_fault, fault_at, first_fault}
 use Rattle.trees.specs.Rows.{chosen}
-use Rattle.trees.specs.Nodes.{first_child, Is, Reaches}
-use Rattle.trees.specs.Growth.{nodes_of, NodesAdded, AtStage, cost, Added}
-use Rattle.trees.specs.Standing.{nodes_in, roots_in, IsFunction, Rooted, NoRoot, OnTree, AllOnTrees, NodesOnly, fixed_size, size_as, size_of, sizes_from, trees_size, owed, TreeAdded}
-use Rattle.trees.proofs.Places.{nth_below, nth_front, nth_last, nth_set_same, nth_set_other}
+use Rattle.trees.specs.Layout.{SeenKind, SeenNode, seen_kind, seen_node, written, Layout, with_tree, with_symbol, with_declared, laid_from, laid_out}
+use Rattle.trees.specs.Growth.{nodes_of, stored, AtStage, cost, Fits}
+use Rattle.trees.specs.Standing.{nodes_in, roots_in, layout_of, LaidOut, IsFunction, owed, TreeAdded}
+use Rattle.trees.proofs.Places.{nth_below}
 use Rattle.trees.proofs.Drafted.{draft_short, draft_ruled, owed_split}
-use Rattle.trees.proofs.Growths.{is_still, is_before, reach_still}
-
--- a tree stays where nodes are added and its root's place is kept
-rooted_still : (B : Book) (a b : Trees) (f : ℕ) (more : List Node) → nodes_in b ≡ nodes_in a ++ more → slice_get (roots_in b) f ≡ slice_get (roots_in a) f → Rooted B a f → Rooted B b f
-rooted_still B a b f more e r h = record {
-  place = h.place;
-  root = h.root;
-  tree = h.tree;
-  there = r ∙ h.there;
-  stands = ap (λ (ns : List Node). slice_get ns h.place) e ∙ nth_front (nodes_in a) more h.place h.stands;
-  under = h.under;
-  earlier = h.earlier;
-  fixed = h.fixed;
-  is = subst (λ (ns : List Node). Is B.rules ns h.root.kind h.tree) (sym e) (is_still more h.is);
-}
-
--- a node stays on its tree where nodes are added and the root's place is kept
-on_still : (a b : Trees) (j : ℕ) (more : List Node) → nodes_in b ≡ nodes_in a ++ more → (h : OnTree a j) → slice_get (roots_in b) h.owner ≡ slice_get (roots_in a) h.owner → OnTree b j
-on_still a b j more e h r = record {
-  owner = h.owner;
-  place = h.place;
-  root = h.root;
-  there = r ∙ h.there;
-  stands = ap (λ (ns : List Node). slice_get ns h.place) e ∙ nth_front (nodes_in a) more h.place h.stands;
-  earlier = h.earlier;
-  held = go h.held;
-}
-  where
-    go : (h.place ≡ j) ⊎ Reaches (nodes_in a) j (first_child h.root.kind) → (h.place ≡ j) ⊎ Reaches (nodes_in b) j (first_child h.root.kind)
-    go (inl y) = inl y
-    go (inr y) = inr (subst (λ (ns : List Node). Reaches ns j (first_child h.root.kind)) (sym e) (reach_still more y))
 
 -- the open positions of a call
 pub call_open : {S G : Signature} {k : ℕ} {ps : List (List ℕ)} (f : ℕ) → ps ≡ below [] 1 k → k ≡ length (head_args G (symbol f)) → G ≡ S → ps ≡ open_call S f
@@ -101,63 +69,45 @@ incomplete a S f o t e h = rw (e, h) refl
 pub complete : {A : Type 0} (a : A) (S : Signature) (f : ℕ) (o : Option Tree) (t : Tree) → o ≡ Some t → is_complete S t ≡ true → ◌≡◌ {A = Result A CheckFault} (Ok a) (verdict (judged S f o) a)
 complete a S f o t e h = rw (e, h) refl
 
--- how many nodes the tree of a symbol has
-pub function_size : (B : Book) (s : ℕ) → IsFunction B.signature s → size_of B s (slice_get B.signature.symbols s) ≡ fixed_size (fixed_tree B s)
-function_size B s h = ap (size_of B s) h.1 ∙ ap (size_as B s) h.2
+-- how its trees lie with the tree of a symbol
+pub function_laid : (B : Book) (s : ℕ) (w : Layout) → IsFunction B.signature s → with_declared B s (slice_get B.signature.symbols s) w ≡ with_tree s w (fixed_tree B s)
+function_laid B s w h = ap (λ (o : Option Declaration). with_declared B s o w) h.1 ∙ ap (λ (r : Role). with_symbol B s r w) h.2
 
-pub no_size : (B : Book) (s : ℕ) → (IsFunction B.signature s → ⊥) → size_of B s (slice_get B.signature.symbols s) ≡ 0
-no_size B s h = go (slice_get B.signature.symbols s) refl
+pub nothing_laid : (B : Book) (s : ℕ) (w : Layout) → (IsFunction B.signature s → ⊥) → with_declared B s (slice_get B.signature.symbols s) w ≡ w
+nothing_laid B s w h = go (slice_get B.signature.symbols s) refl
   where
-    go : (o : Option Declaration) → slice_get B.signature.symbols s ≡ o → size_of B s o ≡ 0
+    go : (o : Option Declaration) → slice_get B.signature.symbols s ≡ o → with_declared B s o w ≡ w
     go None e = refl
     go (Some d) e = role d.role refl
       where
-        role : (r : Role) → d.role ≡ r → size_as B s r ≡ 0
+        role : (r : Role) → d.role ≡ r → with_symbol B s r w ≡ w
         role Constructor f = refl
         role Function f = absurd (h (d, e, f))
         role Operation f = refl
 
+-- nodes, then a root's node after all: its tree is written
+root_laid : (R : List Rule) (before : List SeenNode) (cs ds : List Node) (f : ℕ) (links roots : List (Option ℕ)) (node : Node) (t : Tree) → (map (seen_node R) cs, seen_kind R node.kind) ≡ written before t
+    → ds ≡ cs ++ (node ∷ []) → node.symbol ≡ f → node.next ≡ None → roots ≡ set links f (Some (length cs))
+    → ◌≡◌ {A = Layout} (record { nodes = map (seen_node R) ds; roots = roots }) (with_tree f (record { nodes = before; roots = links }) (Some t))
+root_laid R before cs ds f links roots node t e pushed y next r =
+    let lay : List SeenNode → List (Option ℕ) → Layout = λ vs os. record { nodes = vs; roots = os } in
+    let put : List SeenNode × SeenKind → Layout = λ z. record { nodes = z.0 ++ (record { under = symbol f; kind = z.1; next = None } ∷ []); roots = set links f (Some (length z.0)) } in
+    let one : ℕ → Option ℕ → List SeenNode = λ x o. map (seen_node R) cs ++ (record { under = symbol x; kind = seen_kind R node.kind; next = o } ∷ []) in
+    ap₂ lay (ap (map (seen_node R)) pushed ∙ map-append (seen_node R) cs (node ∷ []) ∙ ap₂ one y next) (r ∙ ap (λ (n : ℕ). set links f (Some n)) (sym (length-map cs (seen_node R)))) ∙ ap put e
+
 -- a function's tree is added: its nodes, then its root
-pub function_added : (B : Book) (f : ℕ) (a b : Trees) (g : Store) (node : Node) (t : Tree) (most : ℕ) → IsFunction B.signature f → f < length (roots_in a) → Added a.store g most → NodesAdded a.store g (fixed_tree B f) → fixed_tree B f ≡ Some t
-    → ((j : ℕ) → length (nodes_of a.store) ≤ j → j < length (nodes_of g) → Reaches (nodes_of g) j (first_child node.kind)) → Is B.rules (nodes_of g) node.kind t → node.symbol ≡ f → nodes_in b ≡ nodes_of g ++ (node ∷ [])
+pub function_added : (B : Book) (f : ℕ) (a b : Trees) (g : Store) (node : Node) (t : Tree) (most : ℕ) → IsFunction B.signature f → Fits a.store g most → fixed_tree B f ≡ Some t
+    → (stored B.rules g, seen_kind B.rules node.kind) ≡ written (stored B.rules a.store) t → node.symbol ≡ f → node.next ≡ None → nodes_in b ≡ nodes_of g ++ (node ∷ [])
     → roots_in b ≡ set (roots_in a) f (Some (length (nodes_of g))) → most + owed B (suc f) ≡ owed B f → TreeAdded B f a b
-function_added B f a b g node t most d l z n e inner i y pushed roots room = record {
-  before = λ k h r. rooted_still B a b k (z.more ++ (node ∷ []))
-      (pushed ∙ ap (λ (ns : List Node). ns ++ (node ∷ [])) z.after ∙ append_assoc (nodes_in a) z.more (node ∷ []))
-      (ap (λ (rs : List (Option ℕ)). slice_get rs k) roots ∙ nth_set_other (roots_in a) f k (Some (length (nodes_of g))) (λ e. omega (arith, h, e))) r;
-  here = λ h. record {
-    place = length (nodes_of g);
-    root = node;
-    tree = t;
-    there = ap (λ (rs : List (Option ℕ)). slice_get rs f) roots ∙ nth_set_same (roots_in a) f (Some (length (nodes_of g))) l;
-    stands = ap (λ (ns : List Node). slice_get ns (length (nodes_of g))) pushed ∙ nth_last (nodes_of g) node;
-    under = y;
-    earlier = is_before i;
-    fixed = e;
-    is = subst (λ (ns : List Node). Is B.rules ns node.kind t) (sym pushed) (is_still (node ∷ []) i);
-  };
-  still = (z.more ++ (node ∷ []), pushed ∙ ap (λ (ns : List Node). ns ++ (node ∷ [])) z.after ∙ append_assoc (nodes_in a) z.more (node ∷ []));
-  on_trees = λ j v u. record {
-    owner = f;
-    place = length (nodes_of g);
-    root = node;
-    there = ap (λ (rs : List (Option ℕ)). slice_get rs f) roots ∙ nth_set_same (roots_in a) f (Some (length (nodes_of g))) l;
-    stands = ap (λ (ns : List Node). slice_get ns (length (nodes_of g))) pushed ∙ nth_last (nodes_of g) node;
-    earlier = is_before i;
-    held = go j v (let one : length (nodes_in b) ≡ length (nodes_of g) + 1 = ap length pushed ∙ length-append (nodes_of g) (node ∷ []) in omega arith) (cases_lt j (length (nodes_of g)));
-  };
-  others = λ k m. ap (λ (rs : List (Option ℕ)). slice_get rs k) roots ∙ nth_set_other (roots_in a) f k (Some (length (nodes_of g))) (λ e. m (e, subst (IsFunction B.signature) (sym e) d));
-  counted = (let one : length (nodes_in b) ≡ length (nodes_of g) + 1 = ap length pushed ∙ length-append (nodes_of g) (node ∷ []) in let w = subst (NodesAdded a.store g) e n in let v = function_size B f d in let u = ap fixed_size e in omega arith);
-  within = (let one : length (nodes_in b) ≡ length (nodes_of g) + 1 = ap length pushed ∙ length-append (nodes_of g) (node ∷ []) in let w = z.fewer in omega arith);
+function_added B f a b g node t most d z e wrote y next pushed roots room = record {
+  laid = root_laid B.rules (stored B.rules a.store) (nodes_of g) (nodes_in b) f (roots_in a) (roots_in b) node t wrote pushed y next roots
+      ∙ ap (with_tree f (layout_of B a)) (sym e) ∙ sym (function_laid B f (layout_of B a) d);
+  within = (let one : length (nodes_in b) ≡ length (nodes_of g) + 1 = ap length pushed ∙ length-append (nodes_of g) (node ∷ []) in omega arith);
 }
-  where
-    go : (j : ℕ) → length (nodes_in a) ≤ j → j < length (nodes_of g) + 1 → (j < length (nodes_of g)) ⊎ (length (nodes_of g) ≤ j) → (length (nodes_of g) ≡ j) ⊎ Reaches (nodes_in b) j (first_child node.kind)
-    go j v u (inl m) = inr (subst (λ (ns : List Node). Reaches ns j (first_child node.kind)) (sym pushed) (reach_still (node ∷ []) (inner j v m)))
-    go j v u (inr m) = inl (omega arith)
 
 -- a symbol that is no function adds nothing
 pub nothing_added : (B : Book) (s : ℕ) (a : Trees) → (IsFunction B.signature s → ⊥) → TreeAdded B s a a
-nothing_added B s a h = record { before = λ f l r. r; here = λ f. absurd (h f); still = ([], sym (append-nil (nodes_in a))); on_trees = λ j l k. absurd (omega arith); others = λ f n. refl; counted = (let e = no_size B s h in omega arith); within = (let e = owed_split B s in omega arith) }
+nothing_added B s a h = record { laid = sym (nothing_laid B s (layout_of B a) h); within = (let e = owed_split B s in omega arith) }
 
 -- whether a symbol is a function, and its fault
 pub function_told : (S G : Signature) (s : ℕ) (b : Bool) → G ≡ S → b ≡ function_role (option_map (λ d. d.role) (slice_get G.symbols s)) → function_role (option_map (λ d. d.role) (slice_get S.symbols s)) ≡ b
@@ -202,11 +152,12 @@ first_more B s h = go B.signature.symbols s h
     go (d ∷ ds) zero l = refl
     go (d ∷ ds) (suc k) l = go ds k (omega arith)
 
--- the nodes of the trees from a symbol on
-pub sizes_more : (B : Book) (s : ℕ) → s < length B.signature.symbols → sizes_from B s (drop s B.signature.symbols) ≡ size_of B s (slice_get B.signature.symbols s) + sizes_from B (suc s) (drop (suc s) B.signature.symbols)
-sizes_more B s h = go B.signature.symbols s h
+-- they lie one after the other
+laid_more : (B : Book) (s : ℕ) (w : Layout) → s < length B.signature.symbols
+    → laid_from B s (drop s B.signature.symbols) w ≡ laid_from B (suc s) (drop (suc s) B.signature.symbols) (with_declared B s (slice_get B.signature.symbols s) w)
+laid_more B s w h = go B.signature.symbols s h
   where
-    go : (ds : List Declaration) (k : ℕ) → k < length ds → sizes_from B s (drop k ds) ≡ size_of B s (slice_get ds k) + sizes_from B (suc s) (drop (suc k) ds)
+    go : (ds : List Declaration) (k : ℕ) → k < length ds → laid_from B s (drop k ds) w ≡ laid_from B (suc s) (drop (suc k) ds) (with_declared B s (slice_get ds k) w)
     go [] k l = absurd (omega arith)
     go (d ∷ ds) zero l = refl
     go (d ∷ ds) (suc k) l = go ds k (omega arith)
@@ -249,13 +200,10 @@ stands_function d f h =
     go (suc (suc zero)) g = absurd (operation 2 _ refl refl g)
     go (suc (suc (suc n))) g = refl
 
--- The trees of the symbols below s stand and no node else, no other symbol has a root, and there is no fault below s.
+-- The trees of the symbols below s are laid out, and there is no fault below s.
 pub record UpTo (B : Book) (s : ℕ) (t : Trees) : Type 0 where
   pub faultless : first_fault B s (drop s B.signature.symbols) ≡ first_fault B 0 B.signature.symbols
-  pub rooted : (f : ℕ) → f < s → IsFunction B.signature f → Rooted B t f
-  pub rootless : (f : ℕ) → ((f < s) × IsFunction B.signature f → ⊥) → NoRoot t f
-  pub on_trees : AllOnTrees t
-  pub counted : length (nodes_in t) + sizes_from B s (drop s B.signature.symbols) ≡ trees_size B
+  pub laid : laid_from B s (drop s B.signature.symbols) (layout_of B t) ≡ laid_out B
   pub room : length (nodes_in t) + owed B s ≤ 1024
 
 pub up_to_next : (B : Book) (s : ℕ) (a b : Trees) → s < length B.signature.symbols → fault_at B s ≡ None → TreeAdded B s a b → UpTo B s a → UpTo B (s + 1) b
@@ -263,41 +211,21 @@ up_to_next B s a b l e z h =
     let i : suc s ≡ s + 1 = omega arith in
     subst (λ (x : ℕ). UpTo B x b) i (record {
       faultless = sym (ap (λ (o : Option CheckFault). option_or o (first_fault B (suc s) (drop (suc s) B.signature.symbols))) e) ∙ sym (first_more B s l) ∙ h.faultless;
-      rooted = λ f k g. go f g (cases_lt f s) k;
-      rootless = λ f n. ap (λ (x : Option (Option ℕ)). onward x (λ o. o)) (z.others f (λ p. n (omega (arith, p.0), p.1))) ∙ h.rootless f (λ p. n (omega (arith, p.0), p.1));
-      on_trees = λ j k. on j k (cases_lt j (length (nodes_in a)));
-      counted = (let w = z.counted in let m = sizes_more B s l in let n = h.counted in omega arith);
+      laid = ap (laid_from B (suc s) (drop (suc s) B.signature.symbols)) z.laid ∙ sym (laid_more B s (layout_of B a) l) ∙ h.laid;
       room = (let w = z.within in let r = h.room in omega arith);
     })
-  where
-    go : (f : ℕ) → IsFunction B.signature f → (f < s) ⊎ (s ≤ f) → f < suc s → Rooted B b f
-    go f g (inl k) m = z.before f k (h.rooted f k g)
-    go f g (inr k) m = let q : s ≡ f = omega arith in subst (Rooted B b) q (z.here (subst (IsFunction B.signature) (sym q) g))
-
-    -- a symbol that has a root is a function before s
-    kept : (f i : ℕ) → slice_get (roots_in a) f ≡ Some (Some i) → slice_get (roots_in b) f ≡ slice_get (roots_in a) f
-    kept f i r = z.others f (λ p. let x = h.rootless f (λ q. omega (arith, p.0, q.0)) in let y = ap (λ (o : Option (Option ℕ)). onward o (λ (v : Option ℕ). v)) r in absurd (zero_one (cc)))
-
-    on : (j : ℕ) → j < length (nodes_in b) → (j < length (nodes_in a)) ⊎ (length (nodes_in a) ≤ j) → OnTree b j
-    on j k (inl m) = let t = h.on_trees j m in on_still a b j z.still.0 z.still.1 t (kept t.owner t.place t.there)
-    on j k (inr m) = z.on_trees j m k
 
 pub up_to_fault : (B : Book) (s : ℕ) (t : Trees) (e : CheckFault) → s < length B.signature.symbols → fault_at B s ≡ Some e → UpTo B s t → first_fault B 0 B.signature.symbols ≡ Some e
 up_to_fault B s t e l f h = sym h.faultless ∙ first_more B s l ∙ ap (λ (o : Option CheckFault). option_or o (first_fault B (suc s) (drop (suc s) B.signature.symbols))) f
-
--- where nothing was added, no symbol has a root
-all_none : (n k : ℕ) (o : Option ℕ) → o ≡ None → onward (slice_get (replicate n o) k) (λ (x : Option ℕ). x) ≡ None
-all_none zero k o e = refl
-all_none (suc n) zero o e = e
-all_none (suc n) (suc k) o e = all_none n k o e
-
-pub none_rootless : (rs : List (Option ℕ)) (f : ℕ) → rs ≡ replicate 96 None → onward (slice_get rs f) (λ o. o) ≡ None
-none_rootless rs f e = ap (λ (x : List (Option ℕ)). onward (slice_get x f) (λ (o : Option ℕ). o)) e ∙ all_none 96 f None refl
 
 -- past the last symbol there is no fault
 pub first_none : (B : Book) (s : ℕ) (t : Trees) → length B.signature.symbols ≤ s → UpTo B s t → first_fault B 0 B.signature.symbols ≡ None
 first_none B s t l h = sym h.faultless ∙ ap (first_fault B s) (drop_all s B.signature.symbols l)
 
--- and no tree
-pub all_counted : (B : Book) (s : ℕ) (t : Trees) → length B.signature.symbols ≤ s → UpTo B s t → NodesOnly B t
-all_counted B s t l h = let e = ap (sizes_from B s) (drop_all s B.signature.symbols l) in let n = h.counted in omega arith
+-- and all trees are laid out
+pub all_laid : (B : Book) (s : ℕ) (t : Trees) → length B.signature.symbols ≤ s → UpTo B s t → LaidOut B t
+all_laid B s t l h = sym (ap (λ (ds : List Declaration). laid_from B s ds (layout_of B t)) (drop_all s B.signature.symbols l)) ∙ h.laid
+
+-- no tree yet
+pub none_laid : (B : Book) (t : Trees) → nodes_in t ≡ [] → roots_in t ≡ replicate 96 None → laid_from B 0 B.signature.symbols (layout_of B t) ≡ laid_out B
+none_laid B t e f = ap₂ (λ (ns : List Node) (os : List (Option ℕ)). laid_from B 0 B.signature.symbols (record { nodes = map (seen_node B.rules) ns; roots = os })) e f

@@ -1,5 +1,5 @@
 -- What holds wherever a tree is grown, and what its growth comes to.
-use Rattle.std.proofs.Common.{◌≡◌, ℕ, suc, ◌+◌, ◌-◌, ◌<◌, ◌≤◌, Bool, true, ◌&&◌, List, [], ◌∷◌, ◌++◌, map, length, Some, None, Option, sym, refl, ap, ◌∙◌, subst, ap₂, append_assoc, append-nil, arith, option_map, filter}
+use Rattle.std.proofs.Common.{◌≡◌, ℕ, suc, ◌+◌, ◌-◌, ◌<◌, ◌≤◌, Bool, true, ◌&&◌, List, [], ◌∷◌, map, length, Some, None, Option, sym, refl, ap, ◌∙◌, subst, ap₂, arith, option_map, filter}
 use mathlib.Core.List.{Memᴰ}
 use Rattle.std.specs.List.{slice_get}
 use Rattle.terms.specs.Terms.{Head, symbol}
@@ -14,14 +14,13 @@ use Rattle.rewriting.proofs.Building.{first_is, children_heads}
 use Rattle.rewriting.proofs.Growing.{grows_fixed_tree}
 use Rattle.drafts.specs.Drafts.{longest_side}
 use Rattle.trees.specs.declared.path.Path.{Path}
-use Rattle.trees.specs.declared.node.Node.{Node}
 use Rattle.trees.specs.declared.node.Kind.TheVariants.{Rule as RuleNode, Branch}
 use Rattle.trees.specs.declared.grown.Grown.{Grown}
 use Rattle.trees.specs.declared.store.Store.{Store}
 use Rattle.trees.specs.Views.{steps_of}
 use Rattle.trees.specs.Rows.{chosen, new_heads}
-use Rattle.trees.specs.Nodes.{Is, is_rule, is_branch}
-use Rattle.trees.specs.Growth.{nodes_of, IsGrown, NodesAdded, AllBelow, AtStage, cost, Added}
+use Rattle.trees.specs.Layout.{SeenNode, applies, branches}
+use Rattle.trees.specs.Growth.{nodes_of, IsGrown, stored, AtStage, cost, Fits}
 use Rattle.trees.proofs.Growths.{under, grows_rule, grows_branch, children_none, GrownTo, due}
 
 module _ (B : Book) (short : (f : ℕ) → NoLonger B f longest_side) (n : ℕ) (ps : List (List ℕ)) (rs : List Rule) (stage : AtStage B n ps rs) where
@@ -51,8 +50,8 @@ module _ (B : Book) (short : (f : ℕ) → NoLonger B f longest_side) (n : ℕ) 
   branch_paid p e = within_stage.pays_children (n - 1) (let w = fuel_left in omega arith) p e
 
   -- nothing is added
-  pub none_added : (a : Store) → Added a a (cost n rs)
-  none_added a = record { more = []; after = sym (append-nil (nodes_of a)); fewer = (let w = within_stage.pays in omega arith) }
+  pub none_added : (a : Store) → Fits a a (cost n rs)
+  none_added a = let w = within_stage.pays in omega arith
 
 -- a shared position is short enough to go further
 pub shared_short : (B : Book) (short : (f : ℕ) → NoLonger B f longest_side) (n : ℕ) (ps : List (List ℕ)) (rs : List Rule) (stage : AtStage B n ps rs) (p : List ℕ) (c : Head)
@@ -63,27 +62,15 @@ shared_short B short n ps rs stage p c e m =
     omega arith
 
 -- a rule node is the answer
-pub rule_grown : (S : Signature) (R : List Rule) (ns : List Node) (n : ℕ) (ps : List (List ℕ)) (rs : List Rule) (r : Rule) (k : ℕ) → 0 < n → sole_open ps rs ≡ Some r → slice_get R k ≡ Some r
-    → IsGrown S R ns (grow S n ps rs) (Some (record { kind = RuleNode k; complete = true }))
-rule_grown S R ns n ps rs r k l e f =
+pub rule_grown : (S : Signature) (R : List Rule) (a : Store) (n : ℕ) (ps : List (List ℕ)) (rs : List Rule) (r : Rule) (k : ℕ) → 0 < n → sole_open ps rs ≡ Some r → slice_get R k ≡ Some r
+    → IsGrown S R a a (grow S n ps rs) (Some (record { kind = RuleNode k; complete = true }))
+rule_grown S R a n ps rs r k l e f =
     let g : Grown = record { kind = RuleNode k; complete = true } in
-    subst (λ (o : Option Tree). IsGrown S R ns o (Some g)) (sym (grows_rule S n ps rs r l e)) (g, refl, is_rule f, refl)
-
-pub rule_counted : (S : Signature) (n : ℕ) (ps : List (List ℕ)) (rs : List Rule) (r : Rule) (a : Store) → 0 < n → sole_open ps rs ≡ Some r → NodesAdded a a (grow S n ps rs)
-rule_counted S n ps rs r a l e = subst (NodesAdded a a) (sym (grows_rule S n ps rs r l e)) refl
-
-pub rule_below : (a : Store) (k : ℕ) → AllBelow a a (Some (record { kind = RuleNode k; complete = true }))
-rule_below a k j l m = absurd (omega arith)
-
-pub none_below : (a b : Store) (r : Option Grown) → r ≡ None → AllBelow a b r
-none_below a b r e = subst (AllBelow a b) (sym e) tt
+    subst (λ (o : Option Tree). IsGrown S R a a o (Some g)) (sym (grows_rule S n ps rs r l e)) (g, refl, ap (λ (o : Option Rule). (stored R a, applies o)) f, refl)
 
 -- there is no tree
-pub none_counted : (a b : Store) (o : Option Tree) → o ≡ None → NodesAdded a b o
-none_counted a b o e = subst (NodesAdded a b) (sym e) tt
-
-pub none_grown : (S : Signature) (R : List Rule) (ns : List Node) (o : Option Tree) (r : Option Grown) → o ≡ None → r ≡ None → IsGrown S R ns o r
-none_grown S R ns o r e f = subst (λ (x : Option Tree). IsGrown S R ns x r) (sym e) f
+pub none_grown : (S : Signature) (R : List Rule) (a b : Store) (o : Option Tree) (r : Option Grown) → o ≡ None → r ≡ None → IsGrown S R a b o r
+none_grown S R a b o r e f = subst (λ (x : Option Tree). IsGrown S R a b x r) (sym e) f
 
 module _ (B : Book) (ps : List (List ℕ)) (m : List Bool) (n : ℕ) (p : List ℕ) (hs : List (Option ℕ)) where
   abbrev left : List Rule
@@ -97,34 +84,22 @@ module _ (B : Book) (ps : List (List ℕ)) (m : List Bool) (n : ℕ) (p : List �
   -- all children are there: a branch
   pub branch_grown : (a b : Store) (path : Path) (first : Option ℕ) (complete covered : Bool) → covered ≡ covers B.signature (constructors_at p left) → 0 < n → sole_open ps left ≡ None → first_shared ps left ≡ Some p → steps_of path ≡ p
       → constructors_at p left ≡ map symbol (new_heads [] hs) → GrownTo B ps m n p hs 0 a b first complete
-      → IsGrown B.signature B.rules (nodes_of b) (grow B.signature n ps left) (Some (record { kind = Branch path first; complete = covered && complete }))
+      → IsGrown B.signature B.rules a b (grow B.signature n ps left) (Some (record { kind = Branch path first; complete = covered && complete }))
   branch_grown a b path first complete covered c l e f q i h =
       let S = B.signature in
+      let R = B.rules in
       let g : Grown = record { kind = Branch path first; complete = covered && complete } in
       let all : children (under S (n - 1) ps left p) (constructors_at p left) ≡ Some h.subtrees = ap (children (under S (n - 1) ps left p)) i ∙ h.built in
       let tree : grow S n ps left ≡ Some (branch p h.subtrees) = grows_branch S n ps left p l e f ∙ ap (option_map (branch p)) all in
-      let is : Is B.rules (nodes_of b) (Branch path first) (branch p h.subtrees) = subst (λ (x : List ℕ). Is B.rules (nodes_of b) (Branch path first) (branch x h.subtrees)) q (is_branch h.linked) in
       let heads-are : heads h.subtrees ≡ constructors_at p left = children_heads S (under S (n - 1) ps left p) (constructors_at p left) h.subtrees all in
-      subst (λ (o : Option Tree). IsGrown S B.rules (nodes_of b) o (Some g)) (sym tree)
-      (g, refl, is, ap₂ ◌&&◌ (c ∙ ap (covers S) (sym heads-are)) h.told)
-
-  pub branch_counted : (a b : Store) (first : Option ℕ) (complete : Bool) → 0 < n → sole_open ps left ≡ None → first_shared ps left ≡ Some p
-      → constructors_at p left ≡ map symbol (new_heads [] hs) → GrownTo B ps m n p hs 0 a b first complete → NodesAdded a b (grow B.signature n ps left)
-  branch_counted a b first complete l e f i h =
-      let S = B.signature in
-      let all : children (under S (n - 1) ps left p) (constructors_at p left) ≡ Some h.subtrees = ap (children (under S (n - 1) ps left p)) i ∙ h.built in
-      let tree : grow S n ps left ≡ Some (branch p h.subtrees) = grows_branch S n ps left p l e f ∙ ap (option_map (branch p)) all in
-      subst (NodesAdded a b) (sym tree) (let k = h.counted in omega arith)
+      let wrote = ap (λ (x : List ℕ). (stored R b, branches x first)) q ∙ ap (λ (w : List SeenNode × Option ℕ). (w.0, branches p w.1)) h.wrote in
+      subst (λ (o : Option Tree). IsGrown S R a b o (Some g)) (sym tree) (g, refl, wrote, ap₂ ◌&&◌ (c ∙ ap (covers S) (sym heads-are)) h.told)
 
   -- the nodes that were added, up to a child's or to the last
   pub children_added : (i : ℕ) (a b : Store) (first : Option ℕ) (complete : Bool) (most : ℕ) → suc (paid_under longest_side (n - 1) p left (constructors_at p left)) ≤ most
-      → GrownTo B ps m n p hs i a b first complete → Added a b most
-  children_added i a b first complete most l h = record { more = h.more; after = h.after; fewer = (let w = h.within in omega arith) }
+      → GrownTo B ps m n p hs i a b first complete → Fits a b most
+  children_added i a b first complete most l h = let w = h.within in omega arith
 
   pub child_added : (i : ℕ) (a b c : Store) (first : Option ℕ) (complete : Bool) (most due : ℕ) → suc (paid_under longest_side (n - 1) p left (constructors_at p left)) ≤ most
-      → GrownTo B ps m n p hs i a b first complete → length (nodes_of b) + due ≤ length (nodes_of a) + paid_under longest_side (n - 1) p left (constructors_at p left) → Added b c due → Added a c most
-  child_added i a b c first complete most due l h r z = record {
-    more = h.more ++ z.more;
-    after = z.after ∙ ap (λ (ns : List Node). ns ++ z.more) h.after ∙ append_assoc (nodes_of a) h.more z.more;
-    fewer = (let f = z.fewer in omega arith);
-  }
+      → GrownTo B ps m n p hs i a b first complete → length (nodes_of b) + due ≤ length (nodes_of a) + paid_under longest_side (n - 1) p left (constructors_at p left) → Fits b c due → Fits a c most
+  child_added i a b c first complete most due l h r f = omega arith

@@ -7,14 +7,14 @@ use Rattle.terms.proofs.Letters.{zero_one}
 use Rattle.rewriting.specs.Rules.{Rule}
 use Rattle.rewriting.specs.Trees.{Node as Tree}
 use Rattle.rewriting.specs.Completeness.{is_complete}
-use Rattle.trees.specs.declared.node.Node.{Node}
 use Rattle.trees.specs.declared.grown.Grown.{Grown}
 use Rattle.trees.specs.declared.shared.Shared.{Shared}
+use Rattle.trees.specs.declared.store.Store.{Store}
 use Rattle.trees.specs.Views.{steps_of}
 use Rattle.trees.specs.Rows.{heads_at, IsPlace}
 use Rattle.trees.specs.Sharing.{IsShared}
-use Rattle.trees.specs.Nodes.{Is}
-use Rattle.trees.specs.Growth.{IsGrown}
+use Rattle.trees.specs.Layout.{seen_kind, written}
+use Rattle.trees.specs.Growth.{stored, IsGrown}
 
 -- a place of a rule
 pub place_some : (R : List Rule) (o : Option Rule) (k : ℕ) → IsPlace R o (Some k) → (r : Rule) × (o ≡ Some r) × (slice_get R k ≡ Some r)
@@ -39,16 +39,16 @@ shared_none R m None h = refl
 shared_none R m (Some p) h = let e = h.1 in absurd (zero_one (cc))
 
 -- a tree
-pub grown_some : (S : Signature) (R : List Rule) (ns : List Node) (o : Option Tree) (g : Grown) → IsGrown S R ns o (Some g) → (t : Tree) × (o ≡ Some t) × Is R ns g.kind t × (g.complete ≡ is_complete S t)
-grown_some S R ns None g h = absurd (zero_one (cc))
-grown_some S R ns (Some t) g h =
+pub grown_some : (S : Signature) (R : List Rule) (a b : Store) (o : Option Tree) (g : Grown) → IsGrown S R a b o (Some g) → (t : Tree) × (o ≡ Some t) × ((stored R b, seen_kind R g.kind) ≡ written (stored R a) t) × (g.complete ≡ is_complete S t)
+grown_some S R a b None g h = absurd (zero_one (cc))
+grown_some S R a b (Some t) g h =
     let e = h.1 in
     let i : h.0 ≡ g = cc in
-    (t, refl, subst (λ (x : Grown). Is R ns x.kind t) i h.2, ap (λ (x : Grown). x.complete) (sym i) ∙ h.3)
+    (t, refl, subst (λ (x : Grown). (stored R b, seen_kind R x.kind) ≡ written (stored R a) t) i h.2, ap (λ (x : Grown). x.complete) (sym i) ∙ h.3)
 
-pub grown_none : (S : Signature) (R : List Rule) (ns : List Node) (o : Option Tree) → IsGrown S R ns o None → o ≡ None
-grown_none S R ns None h = refl
-grown_none S R ns (Some t) h = let e = h.1 in absurd (zero_one (cc))
+pub grown_none : (S : Signature) (R : List Rule) (a b : Store) (o : Option Tree) → IsGrown S R a b o None → o ≡ None
+grown_none S R a b None h = refl
+grown_none S R a b (Some t) h = let e = h.1 in absurd (zero_one (cc))
 
 pub ok_none : {A F : Type 0} (o : Option A) (e f : F) → Err f ≡ ok_or o e → (o ≡ None) × (f ≡ e)
 ok_none None e f h = (refl, cc)

@@ -5,5 +5,6 @@ pub mod Opens
 pub mod Rows
 pub mod Sharing
 pub mod Nodes
+pub mod Layout
 pub mod Growth
 pub mod Standing

@@ -1,5 +1,5 @@
 -- What the trees of a draft are.
-use Rattle.std.specs.Prelude.{◌≡◌, ℕ, suc, ◌+◌, ◌<◌, ◌≤◌, ◌⊎◌, List, [], ◌∷◌, ◌++◌, length, Some, None, Ok, Err, Option, Result, nat_le, filter}
+use Rattle.std.specs.Prelude.{◌≡◌, ℕ, suc, ◌+◌, ◌<◌, ◌≤◌, ◌⊎◌, List, [], ◌∷◌, length, Some, None, Ok, Err, Option, Result, nat_le, filter}
 use Rattle.std.specs.List.{slice_get}
 use Rattle.terms.specs.declared.signature.Role.{Role}
 use Rattle.terms.specs.declared.signature.Role.TheVariants.{Constructor, Function, Operation}
@@ -7,14 +7,15 @@ use Rattle.terms.specs.Terms.{own}
 use Rattle.terms.specs.Options.{onward}
 use Rattle.terms.specs.Signatures.{Declaration, Signature}
 use Rattle.terms.specs.Roots.{call, Stands}
-use Rattle.rewriting.specs.Rules.{Book}
-use Rattle.rewriting.specs.Trees.{Node as Tree}
+use Rattle.rewriting.specs.Rules.{Rule, Book}
+use Rattle.rewriting.specs.Trees.{Node as Tree, at_rule, branch, Nodes as Children, no_child, child}
 use Rattle.rewriting.specs.FixedTree.{fixed_tree}
 use Rattle.drafts.specs.Drafts.{longest_side}
 use Rattle.trees.specs.declared.node.Node.{Node}
 use Rattle.trees.specs.declared.trees.Trees.{Trees}
 use Rattle.trees.specs.Nodes.{Before, first_child, Is, Reaches}
-use Rattle.trees.specs.Growth.{nodes_of, size, cost}
+use Rattle.trees.specs.Growth.{nodes_of, stored, cost}
+use Rattle.trees.specs.Layout.{Layout, with_declared, laid_out}
 
 -- the nodes, and for each function the place of its root
 abbrev pub nodes_in : Trees → List Node
@@ -22,6 +23,14 @@ nodes_in t = nodes_of t.store
 
 abbrev pub roots_in : Trees → List (Option ℕ)
 roots_in t = t.roots
+
+-- they as they are seen, under the rules of a book
+abbrev pub layout_of : Book → Trees → Layout
+layout_of B t = record { nodes = stored B.rules t.store; roots = roots_in t }
+
+-- the trees of the book lie as they are to, and nothing else
+abbrev pub LaidOut : Book → Trees → Type 0
+LaidOut B t = layout_of B t ≡ laid_out B
 
 -- the symbol f is declared as a function
 abbrev pub IsFunction : Signature → ℕ → Type 0
@@ -70,7 +79,18 @@ pub record OnTree (t : Trees) (j : ℕ) : Type 0 where
 abbrev pub AllOnTrees : Trees → Type 0
 AllOnTrees t = (j : ℕ) → j < length (nodes_in t) → OnTree t j
 
--- how many nodes the tree of a function has
+-- how many nodes a tree has, its root among them
+abbrev mutual
+  pub size : Tree → ℕ
+  size (at_rule r) = 1
+  size (branch p ts) = suc (sizes ts)
+
+  -- and children with all below them
+  pub sizes : Children → ℕ
+  sizes no_child = 0
+  sizes (child c t ts) = size t + sizes ts
+
+-- of the tree of a function
 abbrev pub fixed_size : Option Tree → ℕ
 fixed_size None = 0
 fixed_size (Some t) = size t
@@ -80,11 +100,6 @@ abbrev pub size_as : Book → ℕ → Role → ℕ
 size_as B s Constructor = 0
 size_as B s Function = fixed_size (fixed_tree B s)
 size_as B s Operation = 0
-
--- of the symbol s, if it is declared
-abbrev pub size_of : Book → ℕ → Option Declaration → ℕ
-size_of B s None = 0
-size_of B s (Some d) = size_as B s d.role
 
 -- of all symbols from s on together
 abbrev pub sizes_from : Book → ℕ → List Declaration → ℕ
@@ -98,16 +113,15 @@ trees_size B = sizes_from B 0 B.signature.symbols
 abbrev pub NodesOnly : Book → Trees → Type 0
 NodesOnly B t = length (nodes_in t) ≡ trees_size B
 
+-- no two rules are the same
+abbrev pub RulesDiffer : Book → Type 0
+RulesDiffer B = (j k : ℕ) (r : Rule) → slice_get B.rules j ≡ Some r → slice_get B.rules k ≡ Some r → j ≡ k
+
 -- how many nodes the trees of the symbols from s on take at most
 abbrev pub owed : Book → ℕ → ℕ
 owed B s = cost longest_side (filter (λ r. nat_le s r.function) B.rules)
 
--- the tree of the symbol s was added, if it is a function: the trees before it stay, the roots of all other symbols are as they were, only its nodes are added, each on its tree, and room is left for those after it
+-- the tree of the symbol s was added, if it is a function, and room is left for those after it
 pub record TreeAdded (B : Book) (s : ℕ) (a b : Trees) : Type 0 where
-  pub before : (f : ℕ) → f < s → Rooted B a f → Rooted B b f
-  pub here : IsFunction B.signature s → Rooted B b s
-  pub others : (f : ℕ) → ((f ≡ s) × IsFunction B.signature f → ⊥) → slice_get (roots_in b) f ≡ slice_get (roots_in a) f
-  pub still : (more : List Node) × (nodes_in b ≡ nodes_in a ++ more)
-  pub on_trees : (j : ℕ) → length (nodes_in a) ≤ j → j < length (nodes_in b) → OnTree b j
-  pub counted : length (nodes_in b) ≡ length (nodes_in a) + size_of B s (slice_get B.signature.symbols s)
+  pub laid : layout_of B b ≡ with_declared B s (slice_get B.signature.symbols s) (layout_of B a)
   pub within : length (nodes_in b) + owed B (suc s) ≤ length (nodes_in a) + owed B s

@@ -39,6 +39,7 @@ impl CheckFault {
     }
 }
 
+// Prints the number, what is wrong, and the function at fault.
 // As a fault of words, but each names its own thing.
 impl fmt::Display for CheckFault {
     ghost output = { λ fault. Some (check_fault_text fault) };

@@ -66,7 +66,7 @@ fn is_met(heads: &[Option<u8>], symbol: u8) -> bool
     heads.contains(&Some(symbol))
 }
 
-// The number of a constructor's arguments.
+// The number of a symbol's arguments: of a constructor, or of the function whose tree is grown.
 // `sort_of` below and `is_function` of the trees read likewise: they say the value where nothing is declared, once for all their callers.
 pub(crate) fn arity_of(signature: &Signature, symbol: u8) -> usize
     ensures { result ≡ length (head_args (view signature.now) (of_symbol symbol)) }

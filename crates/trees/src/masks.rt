@@ -17,7 +17,7 @@ use drafts::draft::{Draft, MOST_RULES};
 use std::array::from_fn;
 use terms::letter::Letter;
 
-// A rule for each place: whether it remains.
+// For each rule of a draft, by its number: whether it remains.
 // No heap: a table by the number of a rule.
 pub(crate) type Mask = [bool; MOST_RULES];
 

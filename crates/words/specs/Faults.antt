@@ -99,7 +99,7 @@ lawful_letter lawful (Some (Variable v)) = true
 abbrev pub is_lawful : (ℕ → Bool) → ℕ → Bool
 is_lawful lawful x = lawful_letter lawful (letter_of x)
 
--- the faults of a word that is to be a closed term of at most n letters, in their order
+-- the faults of a word that is to be a closed, sort-correct term of at most n letters, in their order
 abbrev pub word_fault : Signature → ℕ → List ℕ → Option WordFault
 word_fault S n w =
     cond (length w == 0 || nat_lt n (length w)) (Some Length)
@@ -109,7 +109,7 @@ word_fault S n w =
 abbrev pub lawful_fault : Signature → (ℕ → Bool) → ℕ → List ℕ → Option WordFault
 lawful_fault S lawful n w = option_or (word_fault S n w) (option_map Cell (first_not (is_lawful lawful) w))
 
--- the number of a fault, and the letter at fault
+-- the number of a fault, and the index that it names
 abbrev pub numbered : WordFault → ℕ × ℕ
 numbered Length = (31, 0)
 numbered (Letter i) = (32, i)

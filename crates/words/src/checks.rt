@@ -1,4 +1,4 @@
-// What is wrong with a word that is no term, and whether it is a value.
+// The faults of a word that is to be a term, and whether it is a value.
 ghost use Rattle.std.specs.Prelude.{◌≡◌, ◌≤◌, [], ◌∷◌, length, Ok, Err};
 ghost use Rattle.words.specs.Faults.{first_not, is_declared, is_closed, is_in_value, is_value, not_whole, suits, walk, wrong_argument, word_fault};
 ghost use Rattle.words.specs.Statements.{ReadsBack, TellsWhole, FindsSort, ClosedWord, NoFaultAt, TellsValue};
@@ -99,7 +99,7 @@ fn walk(
     Ok(at)
 }
 
-// The first fault of a word that is to be a closed term of at most so many letters.
+// The first fault of a word that is to be a closed, sort-correct term of at most so many letters.
 // An Option, and so in `lawful_word_fault`: they answer which fault there is, and their clauses say it of that answer.
 pub fn word_fault(signature: &Signature, most: usize, word: &[u64]) -> Option<WordFault>
     ensures value { result ≡ word_fault (view signature.now) most word.now }
@@ -112,6 +112,7 @@ pub fn word_fault(signature: &Signature, most: usize, word: &[u64]) -> Option<Wo
         .or_else(|| wrong_argument(signature, word).map(WordFault::Sort))
 }
 
+// Whether a number is a letter of the signature: a cell, a variable or a declared symbol.
 // `is_closed`, `is_in_value` and `suits` ask other things of a letter under a signature, in a line each: a struct of both has no other use.
 fn is_declared(signature: &Signature, letter: u64) -> bool
     ensures { result ≡ is_declared (view signature.now) letter }

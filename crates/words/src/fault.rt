@@ -6,7 +6,8 @@ ghost use Rattle.words.specs.Texts.{reason, fault_text};
 use std::error::Error;
 use std::fmt;
 
-// Why a word is no closed term, with the index of the first letter at fault.
+// What is wrong with a word that is to be a closed, sort-correct term, with lawful cells where a number kind is given.
+// The index is that of the first letter at fault; `Whole` has the word's length where the word ends early.
 #[derive(Clone, Copy, PartialEq, Eq, Debug)]
 pub enum WordFault {
     Length,
@@ -17,7 +18,7 @@ pub enum WordFault {
 }
 
 impl WordFault {
-    // The fault's number, and the index of the letter at fault: both at once, which a conversion to a number would not say.
+    // The fault's number, and the index that it names: both at once, which a conversion to a number would not say.
     pub fn numbered(self) -> (u8, usize)
         ensures { result ≡ numbered self }
     {

@@ -10,7 +10,7 @@ use numbers::NumberKind;
 use terms::letter::Letter;
 use terms::signature::Signature;
 
-// The first fault of a word that is to be a closed term of at most so many letters with lawful cells.
+// The first fault of a word that is to be a closed, sort-correct term of at most so many letters with lawful cells.
 pub fn lawful_word_fault<K: NumberKind>(
     signature: &Signature,
     kind: &K,

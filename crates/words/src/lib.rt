@@ -1,4 +1,4 @@
-// Words of terms: where their parts end and stand, and what is wrong with a word that is no term.
+// Words of terms: where their parts end and stand, and the faults of a word that is to be a term.
 // Signature and word are two parameters throughout: a word is cut as it is read, and a struct would be made anew at each cut.
 #![tactic(auto)]
 
@@ -20,7 +20,7 @@ mod tests {
     use terms::name::Name;
     use terms::signature::Signature;
 
-    // The letters of what these tests declare, and of their variable; each program names its own.
+    // The letters of what these tests declare, and of their variable; the tour and the tests of other crates name their own.
     const ZERO: u64 = SYMBOLS + 5;
 
     const UP: u64 = SYMBOLS + 6;
@@ -29,7 +29,7 @@ mod tests {
 
     const X: u64 = VARIABLES;
 
-    // The sort level with zero, up and meet; each program and test makes its own, by the calls that it shows.
+    // The sort level with zero, up and meet; the tour and the tests of other crates make their own, by the calls that they show.
     fn levels() -> Option<Signature> {
         let mut signature = Signature::built_in();
         let level = signature.add_sort(Name::new(b"level")?)?;

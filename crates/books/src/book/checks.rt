@@ -9,8 +9,7 @@ ghost use Rattle.books.specs.Statements.{SoundBook, ExactCheck};
 
 use super::Book;
 use crate::rules::RuleSet;
-use drafts::draft::Draft;
-use terms::signature::Signature;
+use drafts::draft::{Declared, Draft};
 use trees::fault::CheckFault;
 use trees::trees::Trees;
 
@@ -42,11 +41,12 @@ impl Book {
         Ok(())
     }
 
-    // The sorts and symbols.
-    pub fn signature(&self) -> Signature
-        ensures value { view result ≡ (held self.now).signature }
+    // The sorts and symbols, and how many rules each symbol promises.
+    pub fn declared(&self) -> Declared<'_>
+        ensures signature { view result.signature.now ≡ (held self.now).signature }
+        ensures promised { result.promised.now ≡ (held self.now).promised }
         ensures sound { SoundBook (held self.now) (trees_of self.now) }
     {
-        self.rules.signature()
+        self.rules.declared()
     }
 }

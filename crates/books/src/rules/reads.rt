@@ -9,17 +9,18 @@ ghost use Rattle.books.specs.Holding.{set_held, set_trees};
 ghost use Rattle.books.specs.Statements.{SoundSet};
 
 use super::RuleSet;
-use terms::signature::Signature;
+use drafts::draft::Declared;
 use trees::node::Node;
 
 // Calls that are handed on: the parts stay hidden, since what is promised of a rule set hangs on both together.
 impl RuleSet {
-    // The sorts and symbols.
-    pub fn signature(&self) -> Signature
-        ensures value { view result ≡ (set_held self.now).signature }
+    // The sorts and symbols, and how many rules each symbol promises.
+    pub fn declared(&self) -> Declared<'_>
+        ensures signature { view result.signature.now ≡ (set_held self.now).signature }
+        ensures promised { result.promised.now ≡ (set_held self.now).promised }
         ensures sound { SoundSet (set_held self.now) (set_trees self.now) }
     {
-        *self.draft.declared().signature
+        self.draft.declared()
     }
 
     // How many rules there are.

@@ -70,6 +70,7 @@ impl Draft {
         self.add(new, Role::Constructor, args, sort, 0)
     }
 
+    // The name of a constructor that may be added, or why it is refused.
     // `function_verdict` has another test in the middle; what both share is in `new_symbol` and `symbol_left`.
     fn constructor_verdict(
         &self,
@@ -228,6 +229,7 @@ impl Draft {
         sort < self.signature.sort_count() as u64
     }
 
+    // Whether all of some sorts are declared.
     // One `all`, as `is_value` of words and `all_follow` of names are.
     fn are_sorts(&self, sorts: &[u64]) -> bool
         ensures { result ≡ all_below (length (seen self.now).signature.sorts) sorts.now }

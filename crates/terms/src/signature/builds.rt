@@ -10,7 +10,7 @@ use crate::row::Row;
 
 impl Entry {
     // A symbol with at most four arguments.
-    // Name, role, sorts and sort, as a symbol is declared: the entry is made of them here and nowhere else.
+    // Name, role, sorts and sort, as a symbol is declared: every entry that stands is made of them here; `empty` makes a filler besides.
     fn new(name: Name, role: Role, args: &[u8], sort: u8) -> Option<Entry>
         ensures { option_map declaration result ≡ (if nat_le (length args.now) 4 then Some (declaring role name args.now sort) else None) }
     {

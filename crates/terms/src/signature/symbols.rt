@@ -104,7 +104,7 @@ impl Signature {
         Some(self.declared(symbol)?.arguments().len())
     }
 
-    // A symbol's own sort.
+    // A symbol's sort.
     pub fn symbol_sort(&self, symbol: u8) -> Option<u8>
         ensures { result ≡ option_map (λ d. d.sort) (slice_get (view self.now).symbols symbol) }
     {

@@ -67,7 +67,7 @@ impl Open {
         open
     }
 
-    // They in a row.
+    // The open positions as paths, in their order.
     pub(crate) fn paths(&self) -> &[Path]
         ensures { result.now ≡ paths_of self.now }
     {

@@ -6,7 +6,7 @@ use super::Path;
 use terms::row::Row;
 
 impl Path {
-    // The root's.
+    // The path of the root: no steps.
     pub(crate) fn root() -> Path
         ensures { steps_of result ≡ [] }
     {

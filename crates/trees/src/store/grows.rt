@@ -5,7 +5,7 @@ ghost use Rattle.drafts.specs.Books.{book_of};
 ghost use Rattle.drafts.specs.Stores.{seen};
 ghost use Rattle.trees.specs.Opens.{open_of};
 ghost use Rattle.trees.specs.Rows.{chosen};
-ghost use Rattle.trees.specs.Growth.{nodes_of, IsGrown, NodesAdded, AllBelow, Added, AtStage, cost};
+ghost use Rattle.trees.specs.Growth.{nodes_of, IsGrown, Fits, AtStage, cost};
 
 use super::Store;
 use crate::grown::Grown;
@@ -45,10 +45,8 @@ impl Store {
     pub(crate) fn grow(&mut self, draft: &Draft, stage: &Stage, fuel: usize) -> Option<Grown>
         requires stage { AtStage (book_of (seen draft.now)) fuel (open_of stage.now.positions) (chosen stage.now.remain (book_of (seen draft.now)).rules) }
         requires room { length (nodes_of self.old) + cost fuel (chosen stage.now.remain (book_of (seen draft.now)).rules) ≤ 1024 }
-        ensures added { Added self.old self.new (cost fuel (chosen stage.now.remain (book_of (seen draft.now)).rules)) }
-        ensures counted { NodesAdded self.old self.new (the_grown (seen draft.now).signature fuel (open_of stage.now.positions) (chosen stage.now.remain (book_of (seen draft.now)).rules)) }
-        ensures below { AllBelow self.old self.new result }
-        ensures grown { IsGrown (seen draft.now).signature (book_of (seen draft.now)).rules (nodes_of self.new) (the_grown (seen draft.now).signature fuel (open_of stage.now.positions) (chosen stage.now.remain (book_of (seen draft.now)).rules)) result }
+        ensures fits { Fits self.old self.new (cost fuel (chosen stage.now.remain (book_of (seen draft.now)).rules)) }
+        ensures grown { IsGrown (seen draft.now).signature (book_of (seen draft.now)).rules self.old self.new (the_grown (seen draft.now).signature fuel (open_of stage.now.positions) (chosen stage.now.remain (book_of (seen draft.now)).rules)) result }
     {
         if let Some(rule) = sole_open(draft, stage) {
             return Some(Grown {

@@ -7,7 +7,7 @@ ghost use Rattle.drafts.specs.Books.{book_of};
 ghost use Rattle.drafts.specs.Stores.{seen, verdict};
 ghost use Rattle.rewriting.specs.FixedTree.{fixed_tree};
 ghost use Rattle.trees.specs.Checks.{function_role, judged, fault_at, check_fault};
-ghost use Rattle.trees.specs.Standing.{nodes_in, roots_in, refusal, IsFunction, AllRooted, OthersRootless, AllOnTrees, NodesOnly, owed, TreeAdded};
+ghost use Rattle.trees.specs.Standing.{nodes_in, roots_in, refusal, IsFunction, AllRooted, OthersRootless, AllOnTrees, NodesOnly, LaidOut, RulesDiffer, owed, TreeAdded};
 
 use super::Trees;
 use crate::fault::CheckFault;
@@ -40,6 +40,8 @@ impl Trees {
         ensures counted { IfOk result (NodesOnly (book_of (seen draft.now))) }
         ensures on_trees { IfOk result AllOnTrees }
         ensures rootless { IfOk result (OthersRootless (book_of (seen draft.now))) }
+        ensures laid { IfOk result (LaidOut (book_of (seen draft.now))) }
+        ensures differ { IfOk result (λ _. RulesDiffer (book_of (seen draft.now))) }
     {
         // What is there is the refusal: `map_or` would say the same with an Ok in front.
         if let Some(function) = draft.awaited() {

@@ -25,7 +25,7 @@ returns-in_err-trees c =
     }
 
 pub invariant_of-self : goal.invariant_of-self
-invariant_of-self c = let d = c.args.draft.now in let f = c.in_ok-trees.ensures in record { sound = set_tested d c.in_ok-trees.trees (accepted_complete d (sym f.fault)).0 f.rooted f.rootless f.on_trees f.counted }
+invariant_of-self c = let d = c.args.draft.now in let f = c.in_ok-trees.ensures in record { sound = set_tested d c.in_ok-trees.trees (accepted_complete d (sym f.fault)).0 f.rooted f.laid }
 
 pub returns : goal.returns
 returns c =

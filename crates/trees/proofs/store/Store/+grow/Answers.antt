@@ -9,12 +9,11 @@ use Rattle.drafts.specs.Stores.{seen}
 use Rattle.trees.specs.Views.{steps_of}
 use Rattle.trees.specs.Opens.{open_of}
 use Rattle.trees.specs.Rows.{chosen}
-use Rattle.trees.specs.Growth.{nodes_of}
 use Rattle.trees.proofs.Drafted.{draft_short}
 use Rattle.trees.proofs.Told.{place_some, place_none, shared_none, grown_some, grown_none}
 use Rattle.trees.proofs.Growths.{GrownTo, grows_none}
-use Rattle.trees.proofs.Stages.{fuel_left, none_added, rule_grown, rule_counted, rule_below, none_grown, none_counted, none_below}
-use Rattle.trees.proofs.Branches.{few_arguments, Branching, branching, branch_fuel, branch_begins, branch_skip, branch_leads, branch_covered, branch_ends, branch_counts, branch_added, paid_all, NewHead, NewChild, new_short, new_open, new_child, new_room, new_added, new_missing, new_more}
+use Rattle.trees.proofs.Stages.{fuel_left, none_added, rule_grown, none_grown}
+use Rattle.trees.proofs.Branches.{few_arguments, Branching, branching, branch_fuel, branch_begins, branch_skip, branch_leads, branch_covered, branch_ends, branch_added, paid_all, NewHead, NewChild, new_short, new_open, new_child, new_room, new_added, new_missing, new_more}
 use Rattle.trees.proofs.store.Store.+grow.Goals as goal
 use Rattle.trees.proofs.store.Store.+grow.Goals.{In_ok-shared, In-Some-new_head, After-arity_of-arity, After-with_head, After-loop-i, then-complete, else-complete, then-covered, else-covered}
 
@@ -25,11 +24,10 @@ returns-in-Some t c =
     let ps = open_of c.args.stage.now.positions in
     let rs = chosen c.args.stage.now.remain B.rules in
     let x = place_some B.rules (sole_open ps rs) c.in-Some.rule c.in-Some.ensures in
+    let fuel = fuel_left B (draft_short d) c.args.fuel ps rs c.requires.stage in
     record {
-      added = none_added B (draft_short d) c.args.fuel ps rs c.requires.stage c.args.self.now;
-      grown = rule_grown B.signature B.rules (nodes_of c.args.self.now) c.args.fuel ps rs x.0 c.in-Some.rule (fuel_left B (draft_short d) c.args.fuel ps rs c.requires.stage) x.1 x.2;
-      counted = rule_counted B.signature c.args.fuel ps rs x.0 c.args.self.now (fuel_left B (draft_short d) c.args.fuel ps rs c.requires.stage) x.1;
-      below = rule_below c.args.self.now c.in-Some.rule;
+      fits = none_added B (draft_short d) c.args.fuel ps rs c.requires.stage c.args.self.now;
+      grown = rule_grown B.signature B.rules c.args.self.now c.args.fuel ps rs x.0 c.in-Some.rule fuel x.1 x.2;
     }
 
 pub returns-in_err-shared : goal.returns-in_err-shared
@@ -42,10 +40,8 @@ returns-in_err-shared t c =
     let e = place_none B.rules (sole_open ps rs) c.in_default.ensures in
     let f = shared_none B.rules m (first_shared ps rs) c.in_err-shared.ensures in
     record {
-      added = none_added B (draft_short d) c.args.fuel ps rs c.requires.stage c.args.self.now;
-      grown = none_grown B.signature B.rules (nodes_of c.args.self.now) (grow B.signature c.args.fuel ps rs) c.from_residual.result (grows_none B.signature c.args.fuel ps rs e f) c.from_residual.ensures;
-      counted = none_counted c.args.self.now c.args.self.now (grow B.signature c.args.fuel ps rs) (grows_none B.signature c.args.fuel ps rs e f);
-      below = none_below c.args.self.now c.args.self.now c.from_residual.result c.from_residual.ensures;
+      fits = none_added B (draft_short d) c.args.fuel ps rs c.requires.stage c.args.self.now;
+      grown = none_grown B.signature B.rules c.args.self.now c.args.self.now (grow B.signature c.args.fuel ps rs) c.from_residual.result (grows_none B.signature c.args.fuel ps rs e f) c.from_residual.ensures;
     }
 
 -- no rule is left alone, and those that remain share a position
@@ -108,12 +104,10 @@ returns-in_err-child t c =
     let h = at_head p.In-Some-new_head in
     let z = at_child p.After-with_head in
     let g = c.in_err-child.ensures in
-    let none = grown_none B.signature B.rules (nodes_of c.grow.new.self) (grow B.signature (c.args.fuel - 1) (open_of c.opened.result) (chosen c.with_head.result B.rules)) g.grown in
+    let none = grown_none B.signature B.rules c.loop-i.self c.grow.new.self (grow B.signature (c.args.fuel - 1) (open_of c.opened.result) (chosen c.with_head.result B.rules)) g.grown in
     record {
-      added = new_added b h z c.loop-i.invariant g.added;
-      grown = none_grown B.signature B.rules (nodes_of c.grow.new.self) (grow B.signature c.args.fuel (open_of c.args.stage.now.positions) (chosen c.args.stage.now.remain B.rules)) c.from_residual-in_err-child.result (new_missing b h z none) c.from_residual-in_err-child.ensures;
-      counted = none_counted c.args.self.now c.grow.new.self (grow B.signature c.args.fuel (open_of c.args.stage.now.positions) (chosen c.args.stage.now.remain B.rules)) (new_missing b h z none);
-      below = none_below c.args.self.now c.grow.new.self c.from_residual-in_err-child.result c.from_residual-in_err-child.ensures;
+      fits = new_added b h c.grow.new.self z c.loop-i.invariant g.fits;
+      grown = none_grown B.signature B.rules c.args.self.now c.grow.new.self (grow B.signature c.args.fuel (open_of c.args.stage.now.positions) (chosen c.args.stage.now.remain B.rules)) c.from_residual-in_err-child.result (new_missing b h z none) c.from_residual-in_err-child.ensures;
     }
 
 pub push-children-requires : goal.push-children-requires
@@ -121,8 +115,8 @@ push-children-requires t c =
     let p = goal.at.push-children-requires t c in
     let b = at_branch p.In_ok-shared in
     let h = at_head p.In-Some-new_head in
-    let w = new_added b h (at_child p.After-with_head) c.loop-i.invariant c.in_ok-child.ensures.added in
-    omega (arith, c.requires.room, w.fewer)
+    let w = new_added b h c.grow.new.self (at_child p.After-with_head) c.loop-i.invariant c.in_ok-child.ensures.fits in
+    omega (arith, c.requires.room, w)
 
 pub loop-i-preserved-in-Some-new_head : goal.loop-i-preserved-in-Some-new_head
 loop-i-preserved-in-Some-new_head t c =
@@ -133,13 +127,13 @@ loop-i-preserved-in-Some-new_head t c =
     let z = at_child p.After-with_head in
     let g = c.in_ok-child.ensures in
     let k = c.in_ok-child.child in
-    let some = grown_some B.signature B.rules (nodes_of c.grow.new.self) (grow B.signature (c.args.fuel - 1) (open_of c.opened.result) (chosen c.with_head.result B.rules)) k g.grown in
+    let some = grown_some B.signature B.rules c.loop-i.self c.grow.new.self (grow B.signature (c.args.fuel - 1) (open_of c.opened.result) (chosen c.with_head.result B.rules)) k g.grown in
     let both : c.if-complete.complete ≡ (c.loop-i.complete && k.complete) =
     elim c.if-complete.branch [
       | then-complete w ↦ w.complete-is ∙ ap (λ (y : Bool). y && k.complete) (sym w.if-complete.true)
       | else-complete w ↦ w.complete-is ∙ w.if-complete.false ∙ ap (λ (y : Bool). y && k.complete) (sym w.if-complete.false)
     ] in
-    let more = new_more b h k _ some.0 z c.loop-i.invariant g.added g.counted g.below some.1 some.2 some.3 c.push-children.ensures.pushed refl refl refl in
+    let more = new_more b h c.grow.new.self k _ some.0 z c.loop-i.invariant g.fits some.1 some.2 some.3 c.push-children.ensures.pushed refl refl refl in
     rw (both, c.push-children.ensures.place) more
 
 pub covers-covered-requires : goal.covers-covered-requires
@@ -159,4 +153,4 @@ returns t c =
       | then-covered w ↦ w.whole-is ∙ ap (λ (y : Bool). y && c.loop-i.complete) (sym w.if-covered.true)
       | else-covered w ↦ w.whole-is ∙ w.if-covered.false ∙ ap (λ (y : Bool). y && c.loop-i.complete) (sym w.if-covered.false)
     ] in
-    record { added = branch_added b h; grown = rw both (branch_ends b c.covers-covered.result covered h); counted = branch_counts b h; below = h.reached }
+    record { fits = branch_added b h; grown = rw both (branch_ends b c.covers-covered.result covered h) }

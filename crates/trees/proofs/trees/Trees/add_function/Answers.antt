@@ -1,4 +1,4 @@
-use Rattle.std.proofs.Common.{◌≡◌, ◌<◌, length, set, Some, Err, sym, refl, ap, ◌∙◌, subst, arith}
+use Rattle.std.proofs.Common.{◌≡◌, set, Some, Err, sym, refl, ap, ◌∙◌, subst, arith}
 use Rattle.std.proofs.lemmas.Bool.{not-true, not-false}
 use Rattle.std.proofs.lemmas.Result.{err_from_is_err_and}
 use Rattle.trees.specs.declared.fault.CheckFault.TheVariants.{NoTree}
@@ -11,8 +11,8 @@ use Rattle.drafts.specs.Books.{book_of}
 use Rattle.drafts.specs.Stores.{seen}
 use Rattle.trees.specs.Opens.{open_of}
 use Rattle.trees.specs.Rows.{chosen}
-use Rattle.trees.specs.Nodes.{Is}
-use Rattle.trees.specs.Growth.{nodes_of, IsGrown, NodesAdded, AllBelow, cost}
+use Rattle.trees.specs.Layout.{seen_kind, written}
+use Rattle.trees.specs.Growth.{stored, IsGrown, cost}
 use Rattle.trees.proofs.Told.{grown_some, grown_none, ok_none}
 use Rattle.trees.proofs.Branches.{few_arguments}
 use Rattle.trees.proofs.Rooting.{call_open, Called, called, function_below, no_tree, incomplete, complete, function_added}
@@ -24,13 +24,16 @@ at_function : (c : After-rules_of) → Called c.args.draft.now c.args.function (
 at_function c = called c.args.draft.now c.args.function (open_of c.of_call.result) c.rules_of.result c.requires.whole c.requires.function
     (call_open c.args.function c.of_call.ensures c.arity_of.ensures c.declared.ensures.signature) c.rules_of.ensures
 
--- the tree that was grown is the fixed tree
-at_tree : (c : In_ok-grown) → (t : Tree) × (fixed_tree (book_of (seen c.args.draft.now)) c.args.function ≡ Some t) × Is (book_of (seen c.args.draft.now)).rules (nodes_of c.grow.new.self) c.in_ok-grown.grown.kind t × (c.in_ok-grown.grown.complete ≡ is_complete (seen c.args.draft.now).signature t)
+-- the tree that was grown is the fixed tree, and it is written
+at_tree : (c : In_ok-grown) → (t : Tree) × (fixed_tree (book_of (seen c.args.draft.now)) c.args.function ≡ Some t)
+    × ((stored (book_of (seen c.args.draft.now)).rules c.grow.new.self, seen_kind (book_of (seen c.args.draft.now)).rules c.in_ok-grown.grown.kind) ≡ written (stored (book_of (seen c.args.draft.now)).rules c.args.self.now.store) t)
+    × (c.in_ok-grown.grown.complete ≡ is_complete (seen c.args.draft.now).signature t)
 at_tree c =
     let B = book_of (seen c.args.draft.now) in
     let tree = grow B.signature longest_side (open_of c.of_call.result) (chosen c.rules_of.result B.rules) in
     let z = at_function (goal.at.In_ok-grown c).After-rules_of in
-    let g = grown_some B.signature B.rules (nodes_of c.grow.new.self) tree c.in_ok-grown.grown (subst (IsGrown B.signature B.rules (nodes_of c.grow.new.self) tree) c.in_ok-grown.ensures.ok_part c.grow.ensures.grown) in
+    let a = c.args.self.now.store in
+    let g = grown_some B.signature B.rules a c.grow.new.self tree c.in_ok-grown.grown (subst (IsGrown B.signature B.rules a c.grow.new.self tree) c.in_ok-grown.ensures.ok_part c.grow.ensures.grown) in
     (g.0, sym z.tree ∙ g.1, g.2, g.3)
 
 pub of_call-requires : goal.of_call-requires
@@ -49,7 +52,7 @@ returns-in_err-grown-clause-fault c =
     let z = at_function (goal.at.returns-in_err-grown-clause-fault c).After-rules_of in
     let tree = grow S longest_side (open_of c.of_call.result) (chosen c.rules_of.result B.rules) in
     let o = ok_none c.grow.result (NoTree f) c.in_err-grown.field-0.0 c.in_err-grown.ensures.value in
-    let n = grown_none S B.rules (nodes_of c.grow.new.self) tree (subst (IsGrown S B.rules (nodes_of c.grow.new.self) tree) o.0 c.grow.ensures.grown) in
+    let n = grown_none S B.rules c.args.self.now.store c.grow.new.self tree (subst (IsGrown S B.rules c.args.self.now.store c.grow.new.self tree) o.0 c.grow.ensures.grown) in
     let p = err_from_is_err_and c.from_residual.result c.from_residual.ensures.1 in
     p.1 ∙ ap Err (p.2 ∙ o.1) ∙ no_tree tt S f (fixed_tree B f) (sym z.tree ∙ n)
 
@@ -63,7 +66,7 @@ returns-then-not-grown c =
 pub push-root-requires : goal.push-root-requires
 push-root-requires c =
     let z = at_function (goal.at.push-root-requires c).After-rules_of in
-    omega (arith, c.requires.room, z.room, c.grow.ensures.added.fewer)
+    omega (arith, c.requires.room, z.room, c.grow.ensures.fits)
 
 pub bounds-self-function : goal.bounds-self-function
 bounds-self-function c = let l = function_below c.args.draft.now c.args.function c.requires.function in omega arith
@@ -75,10 +78,9 @@ returns c =
     let a = c.args.self.now in
     let z = at_function (goal.at.returns c).After-rules_of in
     let g = at_tree (goal.at.returns c).In_ok-grown in
-    let l : f < length a.roots = (let k = function_below c.args.draft.now f c.requires.function in let w = a.long in omega arith) in
     let yes = not-false c.in_ok-grown.grown.complete c.if-not-grown.false in
     record {
       fault = complete tt B.signature f (fixed_tree B f) g.0 g.1 (sym g.3 ∙ yes);
-      added = function_added B f a _ c.grow.new.self _ g.0 (cost longest_side (chosen c.rules_of.result B.rules)) c.requires.function l c.grow.ensures.added (subst (NodesAdded a.store c.grow.new.self) z.tree c.grow.ensures.counted) g.1
-          (subst (AllBelow a.store c.grow.new.self) c.in_ok-grown.ensures.ok_part c.grow.ensures.below) g.2 refl c.push-root.ensures.pushed (ap (set a.roots f) c.push-root.ensures.place) z.room;
+      added = function_added B f a _ c.grow.new.self _ g.0 (cost longest_side (chosen c.rules_of.result B.rules)) c.requires.function c.grow.ensures.fits g.1 g.2 refl refl c.push-root.ensures.pushed
+          (ap (set a.roots f) c.push-root.ensures.place) z.room;
     }

@@ -1,19 +1,21 @@
-use Rattle.std.proofs.Common.{◌≡◌, ℕ, List, length, IfOk, Err, Option, Result, sym, refl, ap, ◌∙◌, subst, arith, option_map}
+use Rattle.std.proofs.Common.{◌≡◌, ◌≤◌, ℕ, List, length, IfOk, Err, Option, Result, sym, refl, ap, ◌∙◌, subst, arith, option_map}
 use Rattle.std.proofs.lemmas.Result.{err_from_is_err_and}
 use Rattle.std.specs.Option.{option_or}
 use Rattle.terms.specs.Signatures.{Signature}
 use Rattle.drafts.specs.Books.{book_of}
 use Rattle.drafts.specs.Stores.{seen}
+use Rattle.drafts.proofs.Sound.{counted_contents}
 use Rattle.drafts.proofs.Verdicts.{refused, passed}
 use Rattle.trees.specs.declared.fault.CheckFault.{CheckFault}
 use Rattle.trees.specs.declared.fault.CheckFault.TheVariants.{RulesMissing}
 use Rattle.trees.specs.declared.node.Node.{Node}
 use Rattle.trees.specs.declared.trees.Trees.{Trees}
 use Rattle.trees.specs.Checks.{fault_at, first_fault}
-use Rattle.trees.specs.Standing.{roots_in, refusal, AllRooted, OthersRootless, AllOnTrees, NodesOnly}
-use Rattle.trees.proofs.Places.{nth_below}
+use Rattle.trees.specs.Standing.{refusal, AllRooted, OthersRootless, AllOnTrees, NodesOnly, LaidOut, RulesDiffer}
 use Rattle.trees.proofs.Drafted.{draft_room}
-use Rattle.trees.proofs.Rooting.{up_to_next, up_to_fault, first_none, all_counted, none_rootless, function_stands, stands_function}
+use Rattle.trees.proofs.Rooting.{up_to_next, up_to_fault, first_none, all_laid, none_laid, function_stands, stands_function}
+use Rattle.trees.proofs.Different.{rules_differ}
+use Rattle.trees.proofs.Laid.{fixed_trees, all_rooted, others_rootless, all_on_trees, nodes_only}
 use Rattle.trees.proofs.trees.Trees.of.Goals as goal
 use Rattle.trees.proofs.trees.Trees.of.Goals.{After-symbol_count-symbol-end}
 
@@ -26,7 +28,7 @@ loop-symbol-init c =
     let d = c.args.draft.now in
     let r = draft_room d in
     let n = ap (λ (ns : List Node). length ns) c.none-trees.ensures.nodes in
-    record { faultless = refl; rooted = λ f l h. absurd (omega arith); rootless = λ f k. none_rootless (roots_in c.none-trees.result) f c.none-trees.ensures.roots; on_trees = λ j l. absurd (omega arith); counted = omega arith; room = omega arith }
+    record { faultless = refl; laid = none_laid (book_of (seen d)) c.none-trees.result c.none-trees.ensures.nodes c.none-trees.ensures.roots; room = omega arith }
 
 pub add_tree-requires : goal.add_tree-requires
 add_tree-requires c =
@@ -50,6 +52,8 @@ returns-in_err-add_tree c =
       rootless = subst (λ (x : Result Trees CheckFault). IfOk x (OthersRootless B)) (sym r) tt;
       on_trees = subst (λ (x : Result Trees CheckFault). IfOk x AllOnTrees) (sym r) tt;
       counted = subst (λ (x : Result Trees CheckFault). IfOk x (NodesOnly B)) (sym r) tt;
+      laid = subst (λ (x : Result Trees CheckFault). IfOk x (LaidOut B)) (sym r) tt;
+      differ = subst (λ (x : Result Trees CheckFault). IfOk x (λ (y : Trees). RulesDiffer B)) (sym r) tt;
     }
 
 pub loop-symbol-preserved : goal.loop-symbol-preserved
@@ -68,10 +72,19 @@ returns c =
     let s = c.loop-symbol.symbol in
     let n = at_count (goal.at.returns c).After-symbol_count-symbol-end in
     let h = c.loop-symbol.invariant in
+    let t = c.loop-symbol.trees in
+    let end : length B.signature.symbols ≤ s = omega (arith, c.loop-symbol-test.false) in
+    let none = first_none B s t end h in
+    let laid = all_laid B s t end h in
+    let few = (counted_contents d).few_symbols in
+    let trees = fixed_trees B 0 B.signature.symbols none in
+    let rooted : AllRooted B t = λ f k. all_rooted B t laid few trees f (function_stands d f k) in
     record {
-      fault = sym (first_none B s c.loop-symbol.trees (omega (arith, c.loop-symbol-test.false)) h) ∙ ap (λ (o : Option ℕ). option_or (option_map RulesMissing o) (first_fault B 0 B.signature.symbols)) c.in_default.ensures;
-      rooted = λ f k. let g = function_stands d f k in let l = nth_below B.signature.symbols f g.1 in h.rooted f (omega (arith, c.loop-symbol-test.false)) g;
-      rootless = λ f k. h.rootless f (λ g. k (stands_function d f g.1));
-      on_trees = h.on_trees;
-      counted = all_counted B s c.loop-symbol.trees (omega (arith, c.loop-symbol-test.false)) h;
+      fault = sym none ∙ ap (λ (o : Option ℕ). option_or (option_map RulesMissing o) (first_fault B 0 B.signature.symbols)) c.in_default.ensures;
+      rooted = rooted;
+      rootless = λ f k. others_rootless B t laid f (λ g. k (stands_function d f g));
+      on_trees = all_on_trees B t laid few trees;
+      counted = nodes_only B t laid;
+      laid = laid;
+      differ = rules_differ d t rooted;
     }

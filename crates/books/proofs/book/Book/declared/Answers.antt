@@ -1,6 +1,6 @@
 use Rattle.books.proofs.Exact.{accepted_complete}
 use Rattle.books.proofs.Tested.{set_tells, book_tells}
-use Rattle.books.proofs.book.Book.signature.Goals as goal
+use Rattle.books.proofs.book.Book.declared.Goals as goal
 
 pub returns-clause-sound : goal.returns-clause-sound
 returns-clause-sound c =
