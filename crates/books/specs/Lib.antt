@@ -1,3 +1,4 @@
 pub mod Soundness
 pub mod Statements
 pub mod Holding
+pub mod Examples

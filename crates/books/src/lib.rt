@@ -2,4 +2,5 @@
 #![tactic(auto)]
 
 pub mod book;
+pub mod examples;
 pub mod rules;
