@@ -1,4 +1,4 @@
--- Four drafts as their calls make them, and what Check says of them. Assumes nothing.
+-- Drafts as their calls make them, and what Check says of them. Assumes nothing.
 use Rattle.std.specs.Prelude.{◌≡◌, ℕ, ◌+◌, ◌^◌, List, [], ◌∷◌, ◌++◌, replicate, Some, None, codes, Option}
 use Rattle.terms.specs.Terms.{symbol}
 use Rattle.drafts.specs.Drafts.{Draft, empty, sides}
@@ -11,16 +11,19 @@ use Rattle.trees.specs.declared.fault.CheckFault.TheVariants.{RulesMissing, NoTr
 use Rattle.trees.specs.Checks.{check_fault}
 use Rattle.trees.specs.Layout.{SeenKind, applies, branches, SeenNode, laid_out}
 
--- the letter of a symbol, of a constructor of truth, and of a variable
+-- the letter of a symbol
 abbrev pub letter : ℕ → ℕ
 letter s = 2 ^ 32 + s
 
+-- true
 abbrev pub true_letter : ℕ
 true_letter = letter 3
 
+-- false
 abbrev pub false_letter : ℕ
 false_letter = letter 4
 
+-- the letter of a variable
 abbrev pub variable : ℕ → ℕ
 variable v = 2 ^ 33 + v
 
@@ -32,18 +35,13 @@ with_rule D l r = (add_rule D (sides l r)).after
 abbrev pub level_draft : Draft
 level_draft = (declare_constructor (declare_constructor (declare_sort empty (codes "level")).after (codes "zero") [] 2).after (codes "up") (2 ∷ []) 2).after
 
+-- zero
 abbrev pub zero_letter : ℕ
 zero_letter = letter 5
 
+-- up
 abbrev pub up_letter : ℕ
 up_letter = letter 6
-
--- the first function that is declared after them, and the first where nothing else is declared
-abbrev pub seventh : ℕ
-seventh = letter 7
-
-abbrev pub fifth : ℕ
-fifth = letter 5
 
 -- meet promises three rules and has none yet
 abbrev pub meet_begun : Draft
@@ -53,31 +51,31 @@ meet_begun = (declare_function level_draft (codes "meet") (2 ∷ 2 ∷ []) 2 3).
 abbrev pub meet_draft : Draft
 meet_draft =
     with_rule
-    (with_rule (with_rule meet_begun (seventh ∷ zero_letter ∷ variable 1 ∷ []) (zero_letter ∷ []))
-    (seventh ∷ up_letter ∷ variable 0 ∷ zero_letter ∷ []) (zero_letter ∷ []))
-    (seventh ∷ up_letter ∷ variable 0 ∷ up_letter ∷ variable 1 ∷ []) (up_letter ∷ seventh ∷ variable 0 ∷ variable 1 ∷ [])
+    (with_rule (with_rule meet_begun (letter 7 ∷ zero_letter ∷ variable 1 ∷ []) (zero_letter ∷ []))
+    (letter 7 ∷ up_letter ∷ variable 0 ∷ zero_letter ∷ []) (zero_letter ∷ []))
+    (letter 7 ∷ up_letter ∷ variable 0 ∷ up_letter ∷ variable 1 ∷ []) (up_letter ∷ letter 7 ∷ variable 0 ∷ variable 1 ∷ [])
 
 -- pick(A, true) = A; pick(true, false) = false; pick(false, false) = true
 abbrev pub pick_draft : Draft
 pick_draft =
     with_rule
-    (with_rule (with_rule (declare_function empty (codes "pick") (1 ∷ 1 ∷ []) 1 3).after (fifth ∷ variable 0 ∷ true_letter ∷ []) (variable 0 ∷ []))
-    (fifth ∷ true_letter ∷ false_letter ∷ []) (false_letter ∷ []))
-    (fifth ∷ false_letter ∷ false_letter ∷ []) (true_letter ∷ [])
+    (with_rule (with_rule (declare_function empty (codes "pick") (1 ∷ 1 ∷ []) 1 3).after (letter 5 ∷ variable 0 ∷ true_letter ∷ []) (variable 0 ∷ []))
+    (letter 5 ∷ true_letter ∷ false_letter ∷ []) (false_letter ∷ []))
+    (letter 5 ∷ false_letter ∷ false_letter ∷ []) (true_letter ∷ [])
 
 -- either(true, A) = true; either(A, true) = true; either(false, false) = false
 abbrev pub either_draft : Draft
 either_draft =
     with_rule
-    (with_rule (with_rule (declare_function empty (codes "either") (1 ∷ 1 ∷ []) 1 3).after (fifth ∷ true_letter ∷ variable 0 ∷ []) (true_letter ∷ []))
-    (fifth ∷ variable 0 ∷ true_letter ∷ []) (true_letter ∷ []))
-    (fifth ∷ false_letter ∷ false_letter ∷ []) (false_letter ∷ [])
+    (with_rule (with_rule (declare_function empty (codes "either") (1 ∷ 1 ∷ []) 1 3).after (letter 5 ∷ true_letter ∷ variable 0 ∷ []) (true_letter ∷ []))
+    (letter 5 ∷ variable 0 ∷ true_letter ∷ []) (true_letter ∷ []))
+    (letter 5 ∷ false_letter ∷ false_letter ∷ []) (false_letter ∷ [])
 
 -- half(zero) = zero; half(up(up(A))) = up(half(A))
 abbrev pub half_draft : Draft
 half_draft =
-    with_rule (with_rule (declare_function level_draft (codes "half") (2 ∷ []) 2 2).after (seventh ∷ zero_letter ∷ []) (zero_letter ∷ []))
-    (seventh ∷ up_letter ∷ up_letter ∷ variable 0 ∷ []) (up_letter ∷ seventh ∷ variable 0 ∷ [])
+    with_rule (with_rule (declare_function level_draft (codes "half") (2 ∷ []) 2 2).after (letter 7 ∷ zero_letter ∷ []) (zero_letter ∷ []))
+    (letter 7 ∷ up_letter ∷ up_letter ∷ variable 0 ∷ []) (up_letter ∷ letter 7 ∷ variable 0 ∷ [])
 
 -- a node under a symbol
 abbrev pub node_under : ℕ → SeenKind → Option ℕ → SeenNode
@@ -88,7 +86,7 @@ abbrev pub by : Rule → SeenKind
 by r = applies (Some r)
 
 -- What Check says of them, and where the nodes of meet lie.
-pub record Checked : Type 0 where
+pub record CheckedExamples : Type 0 where
   pub rules_missing : check_fault meet_begun ≡ Some (RulesMissing 7)
   pub meet_accepted : check_fault meet_draft ≡ None
   pub pick_accepted : check_fault pick_draft ≡ None

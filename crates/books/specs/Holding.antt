@@ -9,10 +9,11 @@ use Rattle.trees.specs.Standing.{refusal}
 use Rattle.books.specs.declared.rules.RuleSet.{RuleSet}
 use Rattle.books.specs.declared.book.Book.{Book}
 
--- the sorts, symbols and rules of a rule set, and its trees
+-- the sorts, symbols and rules of a rule set
 abbrev pub set_held : RuleSet → Draft
 set_held s = seen s.draft
 
+-- and its trees
 abbrev pub set_trees : RuleSet → Trees
 set_trees s = s.trees
 
@@ -20,6 +21,7 @@ set_trees s = s.trees
 abbrev pub held : Book → Draft
 held b = set_held b.rules
 
+-- and its trees
 abbrev pub trees_of : Book → Trees
 trees_of b = set_trees b.rules
 

@@ -1,7 +1,7 @@
 // Drafts that are checked by computation. A theorem alone: the contract is the promise, and nothing is answered.
-ghost use Rattle.books.specs.Examples.{Checked};
+ghost use Rattle.books.specs.Examples.{CheckedExamples};
 
-// Four drafts: two are books, one has no tree, one an incomplete tree; and where the nodes of one lie.
+// Two drafts that are books, one with no tree, one with an incomplete tree, and one whose rules are missing; and where the nodes of one lie.
 pub fn checked_examples()
-    ensures { Checked }
+    ensures { CheckedExamples }
 {}

@@ -132,7 +132,7 @@ mod tests {
     }
 
     #[test]
-    fn any_place_may_be_asked_first(rt: HostRuntime) -> Result<(), Fail> {
+    fn any_position_may_be_branched_at_first(rt: HostRuntime) -> Result<(), Fail> {
         let mut draft = levels()?;
         held(draft.declare_function(b"pick", &[TRUTH, TRUTH], TRUTH, 3))?;
         held(draft.add_rule(&[FIRST, X, TRUE], &[X]))?;
@@ -198,13 +198,15 @@ mod tests {
         assert_eq!(rt; refusal(&before), Some((24, 7)));
         let behind = two([2, 1], &[FIRST_ANY, FIRST_ANY, SECOND_UP])?;
         assert_eq!(rt; refusal(&behind), Some((23, 7)));
+        let twice = two([2, 2], &[FIRST_ANY, FIRST_ANY, SECOND_ANY, SECOND_ANY])?;
+        assert_eq!(rt; refusal(&twice), Some((23, 7)));
         let alone = two([2, 1], &[FIRST_ANY, FIRST_ANY, SECOND_ANY])?;
         assert_eq!(rt; refusal(&alone), Some((23, 7)));
         Ok(())
     }
 
     #[test]
-    fn left_sides_may_nest_to_the_longest(rt: HostRuntime) -> Result<(), Fail> {
+    fn the_longest_left_sides_may_nest(rt: HostRuntime) -> Result<(), Fail> {
         let mut left = [UP; 64];
         left[0] = FIRST;
         left[63] = X;
@@ -245,7 +247,7 @@ mod tests {
     ];
 
     #[test]
-    fn the_first_common_place_is_branched_at(rt: HostRuntime) -> Result<(), Fail> {
+    fn the_first_common_position_is_branched_at(rt: HostRuntime) -> Result<(), Fail> {
         let mut book = Book::empty();
         assert!(rt; book.check(&defined(&[LEVEL, LEVEL], &BOTH)?).is_ok());
         assert!(rt; branches(&book, &[], &[1]));

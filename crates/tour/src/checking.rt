@@ -116,7 +116,7 @@ fn tell(rt: &HostRuntime, name: &str, draft: &Draft) -> io::Result<()> {
             show_book(rt, &book)
         }
         Err(fault) => {
-            // By its number and the name of the function; the fault prints itself by numbers alone.
+            // With the name of the function; what the fault prints has its number.
             let (number, symbol) = fault.numbered();
             let function = Symbol {
                 signature: draft.declared().signature,

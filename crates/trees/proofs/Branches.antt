@@ -29,8 +29,8 @@ use Rattle.trees.specs.Views.{steps_of}
 use Rattle.trees.specs.Rows.{chosen, is_head, heads_at, new_head, new_heads, there, IsPlace}
 use Rattle.trees.specs.Sharing.{IsShared}
 use Rattle.trees.specs.Nodes.{Linked, Leads}
-use Rattle.trees.specs.Layout.{SeenNode, seen_kind, written, children_written}
-use Rattle.trees.specs.Growth.{nodes_of, IsGrown, stored, AtStage, cost, Fits}
+use Rattle.trees.specs.Layout.{SeenNode, seen_kind, laid_tree, laid_children}
+use Rattle.trees.specs.Growth.{nodes_of, IsGrown, stored, AtStage, cost, WithinCost}
 use Rattle.trees.proofs.Drafted.{draft_short}
 use Rattle.trees.proofs.Scanned.{covers_same}
 use Rattle.trees.proofs.Layouts.{children_linked}
@@ -38,7 +38,7 @@ use Rattle.trees.proofs.Seeking.{linked_leads}
 use Rattle.trees.proofs.LeftSides.{draft_cells}
 use Rattle.trees.proofs.Chosen.{chosen_kept, constructors_new}
 use Rattle.trees.proofs.Told.{place_none, shared_some}
-use Rattle.trees.proofs.Growths.{under, GrownTo, grown_none, grown_skip, grown_more, symbol_met, room_left, due}
+use Rattle.trees.proofs.Growths.{under, GrownTo, grown_begins, grown_skip, grown_more, symbol_met, room_left, due}
 use Rattle.trees.proofs.Stages.{fuel_left, open_room, child_stage, branch_paid, shared_short, child_missing, branch_grown, children_added, child_added}
 
 -- a symbol takes at most four arguments
@@ -99,7 +99,7 @@ module _ {d : Draft} {ps : List (List ℕ)} {m : List Bool} {n : ℕ} {s : Share
 
   -- no child yet
   pub branch_begins : (a : Store) → GrownTo B ps m n p s.heads 96 a a None true
-  branch_begins a = grown_none B ps m n p s.heads a 96 b.long all_new
+  branch_begins a = grown_begins B ps m n p s.heads a 96 b.long all_new
 
   -- no symbol is new at the place before i
   pub branch_skip : {i : ℕ} {a c : Store} {first : Option ℕ} {complete : Bool} → 0 < i → i ≤ 96 → None ≡ new_head (take (i - 1) s.heads) (get_or s.heads (i - 1) None)
@@ -109,7 +109,7 @@ module _ {d : Draft} {ps : List (List ℕ)} {m : List Bool} {n : ℕ} {s : Share
   -- all children: the look-up finds their constructors, which tells whether none is missing
   pub branch_leads : {a c : Store} {first : Option ℕ} {complete : Bool} → GrownTo B ps m n p s.heads 0 a c first complete → Leads (nodes_of c) first s.heads
   branch_leads {a} {c} {first} h =
-      let w = children_written (stored B.rules a) h.subtrees in
+      let w = laid_children (stored B.rules a) h.subtrees in
       let l : Linked B.rules (nodes_of c) w.1 h.subtrees = children_linked B.rules (nodes_of c) (stored B.rules a) [] h.subtrees (ap (λ (z : List SeenNode × Option ℕ). z.0) h.wrote ∙ sym (append-nil w.0)) in
       linked_leads s.heads (subst (λ (o : Option ℕ). Linked B.rules (nodes_of c) o h.subtrees) (sym (ap (λ (z : List SeenNode × Option ℕ). z.1) h.wrote)) l)
       (children_heads B.signature (under B.signature (n - 1) ps rs p) (map symbol (new_heads [] s.heads)) h.subtrees h.built)
@@ -126,7 +126,7 @@ module _ {d : Draft} {ps : List (List ℕ)} {m : List Bool} {n : ℕ} {s : Share
   pub paid_all : suc (paid_under longest_side (n - 1) p rs (constructors_at p rs)) ≤ cost n rs
   paid_all = branch_paid B (draft_short d) n ps rs b.stage p b.shared
 
-  pub branch_added : {a c : Store} {first : Option ℕ} {complete : Bool} → GrownTo B ps m n p s.heads 0 a c first complete → Fits a c (cost n rs)
+  pub branch_added : {a c : Store} {first : Option ℕ} {complete : Bool} → GrownTo B ps m n p s.heads 0 a c first complete → WithinCost a c (cost n rs)
   branch_added {a} {c} {first} {complete} h = children_added B ps m n p s.heads 0 a c first complete (cost n rs) paid_all h
 
   -- a new symbol
@@ -171,9 +171,9 @@ module _ {d : Draft} {ps : List (List ℕ)} {m : List Bool} {n : ℕ} {s : Share
 
     -- what is added with it
     pub new_added : {qs : List (List ℕ)} {ms : List Bool} {a c : Store} {first : Option ℕ} {complete : Bool} (e : Store) → NewChild d ps m n s x qs ms → GrownTo B ps m n p s.heads i a c first complete
-        → Fits c e (cost (n - 1) (chosen ms B.rules)) → Fits a e (cost n rs)
+        → WithinCost c e (cost (n - 1) (chosen ms B.rules)) → WithinCost a e (cost n rs)
     new_added {qs} {ms} {a} {c} {first} {complete} e z g w =
-        child_added B ps m n p s.heads i a c e first complete (cost n rs) (due B ps m n p s.heads x) paid_all g (new_room g) (subst (Fits c e) z.costs w)
+        child_added B ps m n p s.heads i a c e first complete (cost n rs) (due B ps m n p s.heads x) paid_all g (new_room g) (subst (WithinCost c e) z.costs w)
 
     -- without its tree there is none
     pub new_missing : {qs : List (List ℕ)} {ms : List Bool} → NewChild d ps m n s x qs ms → grow B.signature (n - 1) qs (chosen ms B.rules) ≡ None → grow B.signature n ps rs ≡ None
@@ -181,8 +181,8 @@ module _ {d : Draft} {ps : List (List ℕ)} {m : List Bool} {n : ℕ} {s : Share
 
     -- with it there is one child more
     pub new_more : {qs : List (List ℕ)} {ms : List Bool} {a c g : Store} {first : Option ℕ} {complete : Bool} (e : Store) (k : Grown) (node : Node) (t : Tree) → NewChild d ps m n s x qs ms → GrownTo B ps m n p s.heads i a c first complete
-        → Fits c e (cost (n - 1) (chosen ms B.rules)) → grow B.signature (n - 1) qs (chosen ms B.rules) ≡ Some t → (stored B.rules e, seen_kind B.rules k.kind) ≡ written (stored B.rules c) t → k.complete ≡ is_complete B.signature t
+        → WithinCost c e (cost (n - 1) (chosen ms B.rules)) → grow B.signature (n - 1) qs (chosen ms B.rules) ≡ Some t → (stored B.rules e, seen_kind B.rules k.kind) ≡ laid_tree (stored B.rules c) t → k.complete ≡ is_complete B.signature t
         → nodes_of g ≡ nodes_of e ++ (node ∷ []) → node.symbol ≡ x → node.kind ≡ k.kind → node.next ≡ first
         → GrownTo B ps m n p s.heads (i - 1) a g (Some (length (nodes_of e))) (complete && k.complete)
     new_more {qs} {ms} {a} {c} {g} {first} {complete} e k node t z l w r wrote told pushed =
-        grown_more B ps m n p s.heads i x a c e g first complete k node t h.after below h.new l (subst (Fits c e) z.costs w) (sym z.tree ∙ r) wrote told pushed
+        grown_more B ps m n p s.heads i x a c e g first complete k node t h.after below h.new l (subst (WithinCost c e) z.costs w) (sym z.tree ∙ r) wrote told pushed

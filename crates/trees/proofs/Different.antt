@@ -50,9 +50,9 @@ once_alone (twice_here e m) = Memᴰ.not-nil m
 once_alone (twice_later w) = elim w [ ]
 
 -- where children are made for some constructors, one is made for each
-child_there : (tree : Head → Option Node) {c : Head} {cs : List Head} {ns : Nodes} → Memᴰ c cs → children tree cs ≡ Some ns → (n : Node) × (tree c ≡ Some n)
-child_there tree (Memᴰ.head {x = d} {xs = cs} h) e = let x = children_is tree d cs e in (x.0, ap tree h ∙ x.2)
-child_there tree (Memᴰ.tail {x = d} {xs = cs} m) e = child_there tree m (children_is tree d cs e).3
+built_child : (tree : Head → Option Node) {c : Head} {cs : List Head} {ns : Nodes} → Memᴰ c cs → children tree cs ≡ Some ns → (n : Node) × (tree c ≡ Some n)
+built_child tree (Memᴰ.head {x = d} {xs = cs} h) e = let x = children_is tree d cs e in (x.0, ap tree h ∙ x.2)
+built_child tree (Memᴰ.tail {x = d} {xs = cs} m) e = built_child tree m (children_is tree d cs e).3
 
 module _ (S : Signature) where
   -- where a rule stands twice, no tree is built: at a branch it goes twice into one child
@@ -64,12 +64,12 @@ module _ (S : Signature) where
         | inr x ↦
             let p = x.0 in
             let c = shared S p rs (first_is (variable_positions π) rs x.2).1 r (twice_mem w) in
-            let t = child_there (subtree S n π rs p) (occurring p (twice_mem w) c.1) x.3 in
+            let t = built_child (subtree S n π rs p) (occurring p (twice_mem w) c.1) x.3 in
             not_built n (refined S π p c.0) (twice_kept (has_at p c.0) w (constructor_has p c.0 r c.1)) t.1
       ]
 
 -- if for each rule its function has a fixed tree, no two rules are the same
-pub trees_differ : (B : Book) → ((r : Rule) → Memᴰ r B.rules → (t : Node) × (fixed_tree B r.function ≡ Some t)) → RulesDiffer B
+trees_differ : (B : Book) → ((r : Rule) → Memᴰ r B.rules → (t : Node) × (fixed_tree B r.function ≡ Some t)) → RulesDiffer B
 trees_differ B h j k r e g = go (cases_lt j k) (cases_lt k j)
   where
     apart : (i n : ℕ) → i < n → slice_get B.rules i ≡ Some r → slice_get B.rules n ≡ Some r → ⊥

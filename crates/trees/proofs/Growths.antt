@@ -18,8 +18,8 @@ use Rattle.trees.specs.declared.grown.Grown.{Grown}
 use Rattle.trees.specs.declared.store.Store.{Store}
 use Rattle.trees.specs.Rows.{chosen, put, new_head, new_heads}
 use Rattle.trees.specs.Nodes.{Before, Linked, no_link, link}
-use Rattle.trees.specs.Layout.{SeenKind, SeenNode, seen_kind, seen_node, written, children_written}
-use Rattle.trees.specs.Growth.{nodes_of, stored, cost, Fits}
+use Rattle.trees.specs.Layout.{SeenKind, SeenNode, seen_kind, seen_node, laid_tree, laid_children}
+use Rattle.trees.specs.Growth.{nodes_of, stored, cost, WithinCost}
 use Rattle.trees.proofs.Places.{nth_below}
 
 -- links go to places that are there
@@ -28,15 +28,15 @@ linked_before no_link = tt
 linked_before {ns = ns} (link {i = i} e f b h l) = nth_below ns i e
 
 -- a child's node after all: its tree is written, and it is linked before the others
-wrote_more : (R : List Rule) (before : List SeenNode) {s : ℕ} (bs cs ds : List Node) (first : Option ℕ) (node : Node) (t : Tree) (ts : Children) → (map (seen_node R) bs, first) ≡ children_written before ts
-    → (map (seen_node R) cs, seen_kind R node.kind) ≡ written (map (seen_node R) bs) t → ds ≡ cs ++ (node ∷ []) → node.symbol ≡ s → node.next ≡ first
-    → (map (seen_node R) ds, Some (length cs)) ≡ children_written before (child (symbol s) t ts)
+wrote_more : (R : List Rule) (before : List SeenNode) {s : ℕ} (bs cs ds : List Node) (first : Option ℕ) (node : Node) (t : Tree) (ts : Children) → (map (seen_node R) bs, first) ≡ laid_children before ts
+    → (map (seen_node R) cs, seen_kind R node.kind) ≡ laid_tree (map (seen_node R) bs) t → ds ≡ cs ++ (node ∷ []) → node.symbol ≡ s → node.next ≡ first
+    → (map (seen_node R) ds, Some (length cs)) ≡ laid_children before (child (symbol s) t ts)
 wrote_more R before {s} bs cs ds first node t ts e f pushed y next =
     let pair : List SeenNode → ℕ → List SeenNode × Option ℕ = λ vs n. (vs, Some n) in
     let put : Option ℕ → List SeenNode × SeenKind → List SeenNode × Option ℕ = λ o z. (z.0 ++ (record { under = symbol s; kind = z.1; next = o } ∷ []), Some (length z.0)) in
     let one : ℕ → Option ℕ → List SeenNode = λ x o. map (seen_node R) cs ++ (record { under = symbol x; kind = seen_kind R node.kind; next = o } ∷ []) in
     ap₂ pair (ap (map (seen_node R)) pushed ∙ map-append (seen_node R) cs (node ∷ []) ∙ ap₂ one y next) (sym (length-map cs (seen_node R)))
-    ∙ ap (put first) f ∙ ap (λ (w : List SeenNode × Option ℕ). put w.1 (written w.0 t)) e
+    ∙ ap (put first) f ∙ ap (λ (w : List SeenNode × Option ℕ). put w.1 (laid_tree w.0 t)) e
 
 -- new symbols of two parts of a list
 pub new_heads_split : (before xs ys : List (Option ℕ)) → new_heads before (xs ++ ys) ≡ new_heads before xs ++ new_heads (before ++ xs) ys
@@ -92,7 +92,7 @@ module _ (S : Signature) where
   pub record SoFar (R : List Rule) (tree : Head → Option Tree) (done : List Head) (owed most : ℕ) (a b : Store) (first : Option ℕ) (complete : Bool) : Type 0 where
     pub subtrees : Children
     pub built : children tree done ≡ Some subtrees
-    pub wrote : (stored R b, first) ≡ children_written (stored R a) subtrees
+    pub wrote : (stored R b, first) ≡ laid_children (stored R a) subtrees
     pub told : complete ≡ are_complete S subtrees
     pub within : length (nodes_of b) + owed ≤ length (nodes_of a) + most
 
@@ -110,7 +110,7 @@ module _ (S : Signature) where
   -- one child more
   pub one_more : (R : List Rule) (tree : Head → Option Tree) (done : List Head) (owed most s due : ℕ) (a b c d : Store) (first : Option ℕ) (complete : Bool) (g : Grown) (node : Node) (t : Tree)
       → SoFar R tree done (owed + due) most a b first complete
-      → Fits b c due → tree (symbol s) ≡ Some t → (stored R c, seen_kind R g.kind) ≡ written (stored R b) t → g.complete ≡ is_complete S t
+      → WithinCost b c due → tree (symbol s) ≡ Some t → (stored R c, seen_kind R g.kind) ≡ laid_tree (stored R b) t → g.complete ≡ is_complete S t
       → nodes_of d ≡ nodes_of c ++ (node ∷ []) → node.symbol ≡ s → node.kind ≡ g.kind → node.next ≡ first
       → SoFar R tree (symbol s ∷ done) owed most a d (Some (length (nodes_of c))) (complete && g.complete)
   one_more R tree done owed most s due a b c d first complete g node t h f e wrote k pushed y kind next =
@@ -119,7 +119,7 @@ module _ (S : Signature) where
       record {
         subtrees = child (symbol s) t h.subtrees;
         built = children_more tree (symbol s) done e h.built;
-        wrote = wrote_more R (stored R a) (nodes_of b) (nodes_of c) (nodes_of d) first node t h.subtrees h.wrote (subst (λ (q : Kind). (stored R c, seen_kind R q) ≡ written (stored R b) t) (sym kind) wrote) pushed y next;
+        wrote = wrote_more R (stored R a) (nodes_of b) (nodes_of c) (nodes_of d) first node t h.subtrees h.wrote (subst (λ (q : Kind). (stored R c, seen_kind R q) ≡ laid_tree (stored R b) t) (sym kind) wrote) pushed y next;
         told = ap (λ (x : Bool). x && g.complete) h.told ∙ and_swap (are_complete S h.subtrees) g.complete ∙ ap (λ (x : Bool). x && are_complete S h.subtrees) k;
         within = omega arith;
       }
@@ -162,8 +162,8 @@ module _ (B : Book) (ps : List (List ℕ)) (m : List Bool) (n : ℕ) (p : List �
   abbrev pub GrownTo : ℕ → Store → Store → Option ℕ → Bool → Type 0
   GrownTo i a b first complete = SoFar B.signature B.rules (under B.signature (n - 1) ps left p) (done i) (owed i) (paid_under longest_side (n - 1) p left all) a b first complete
 
-  pub grown_none : (a : Store) (i : ℕ) → length hs ≡ i → all ≡ map symbol (new_heads [] hs) → GrownTo i a a None true
-  grown_none a i l e =
+  pub grown_begins : (a : Store) (i : ℕ) → length hs ≡ i → all ≡ map symbol (new_heads [] hs) → GrownTo i a a None true
+  grown_begins a i l e =
       let t : take i hs ≡ hs = take_all i hs (omega arith) in
       let d : drop i hs ≡ [] = drop_all i hs (omega arith) in
       let w : owed i ≡ paid_under longest_side (n - 1) p left all = ap (λ (xs : List (Option ℕ)). paid_under longest_side (n - 1) p left (map symbol (new_heads [] xs))) t ∙ ap (paid_under longest_side (n - 1) p left) (sym e) in
@@ -200,7 +200,7 @@ module _ (B : Book) (ps : List (List ℕ)) (m : List Bool) (n : ℕ) (p : List �
 
   pub grown_more : (i s : ℕ) (a b c d : Store) (first : Option ℕ) (complete : Bool) (g : Grown) (node : Node) (t : Tree)
       → 0 < i → i ≤ length hs → Some s ≡ new_head (take (i - 1) hs) (get_or hs (i - 1) None) → GrownTo i a b first complete
-      → Fits b c (due s) → under B.signature (n - 1) ps left p (symbol s) ≡ Some t → (stored B.rules c, seen_kind B.rules g.kind) ≡ written (stored B.rules b) t → g.complete ≡ is_complete B.signature t
+      → WithinCost b c (due s) → under B.signature (n - 1) ps left p (symbol s) ≡ Some t → (stored B.rules c, seen_kind B.rules g.kind) ≡ laid_tree (stored B.rules b) t → g.complete ≡ is_complete B.signature t
       → nodes_of d ≡ nodes_of c ++ (node ∷ []) → node.symbol ≡ s → node.kind ≡ g.kind → node.next ≡ first
       → GrownTo (i - 1) a d (Some (length (nodes_of c))) (complete && g.complete)
   grown_more i s a b c d first complete g node t l k e h fits tree wrote told pushed y kind next =

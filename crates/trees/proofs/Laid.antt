@@ -3,7 +3,6 @@ use Rattle.std.proofs.Common.{◌≡◌, ℕ, zero, suc, ◌+◌, ◌<◌, ◌�
 use Rattle.std.specs.List.{slice_get}
 use Rattle.std.proofs.lemmas.List.{length-append, length-map, length-set, length-replicate}
 use Rattle.std.proofs.lemmas.Bool.{cases_lt}
-use Rattle.std.specs.Option.{option_or}
 use Rattle.terms.specs.declared.signature.Role.{Role}
 use Rattle.terms.specs.declared.signature.Role.TheVariants.{Constructor, Function, Operation}
 use Rattle.terms.specs.Terms.{symbol}
@@ -13,10 +12,11 @@ use Rattle.terms.proofs.Letters.{zero_one}
 use Rattle.rewriting.specs.Rules.{Book}
 use Rattle.rewriting.specs.Trees.{Node as Tree}
 use Rattle.rewriting.specs.FixedTree.{fixed_tree}
+use Rattle.drafts.proofs.Kept.{none_either}
 use Rattle.trees.specs.declared.node.Node.{Node}
 use Rattle.trees.specs.declared.trees.Trees.{Trees}
 use Rattle.trees.specs.Nodes.{Before, first_child, Is, Reaches}
-use Rattle.trees.specs.Layout.{SeenNode, written, Layout, with_tree, with_symbol, laid_from, laid_out}
+use Rattle.trees.specs.Layout.{SeenNode, laid_tree, Layout, with_tree, with_symbol, laid_from, laid_out}
 use Rattle.trees.specs.Checks.{judged, symbol_fault, first_fault}
 use Rattle.trees.specs.Standing.{nodes_in, roots_in, layout_of, LaidOut, IsFunction, Rooted, NoRoot, OnTree, AllOnTrees, NodesOnly, fixed_size, size_as, sizes_from}
 use Rattle.trees.proofs.Places.{nth_set_same, nth_set_other}
@@ -26,30 +26,26 @@ use Rattle.trees.proofs.Layouts.{written_after, written_counted, seen_at, writte
 tree_after : (f : ℕ) (w : Layout) (o : Option Tree) → (more : List SeenNode) × ((with_tree f w o).nodes ≡ w.nodes ++ more)
 tree_after f w None = ([], sym (append-nil w.nodes))
 tree_after f w (Some t) =
-    let z = written w.nodes t in
+    let z = laid_tree w.nodes t in
     let a = written_after w.nodes t in
     let v : List SeenNode = record { under = symbol f; kind = z.1; next = None } ∷ [] in
     (a.0 ++ v, ap (λ (xs : List SeenNode). xs ++ v) a.1 ∙ append_assoc w.nodes a.0 v)
 
 tree_other : (f : ℕ) (w : Layout) (o : Option Tree) (g : ℕ) → (g ≡ f → ⊥) → slice_get (with_tree f w o).roots g ≡ slice_get w.roots g
 tree_other f w None g n = refl
-tree_other f w (Some t) g n = nth_set_other w.roots f g (Some (length (written w.nodes t).0)) n
+tree_other f w (Some t) g n = nth_set_other w.roots f g (Some (length (laid_tree w.nodes t).0)) n
 
 tree_long : (f : ℕ) (w : Layout) (o : Option Tree) → length (with_tree f w o).roots ≡ length w.roots
 tree_long f w None = refl
-tree_long f w (Some t) = length-set w.roots f (Some (length (written w.nodes t).0))
+tree_long f w (Some t) = length-set w.roots f (Some (length (laid_tree w.nodes t).0))
 
 tree_counted : (f : ℕ) (w : Layout) (o : Option Tree) → length (with_tree f w o).nodes ≡ length w.nodes + fixed_size o
 tree_counted f w None = omega arith
 tree_counted f w (Some t) =
-    let z = written w.nodes t in
+    let z = laid_tree w.nodes t in
     let v : SeenNode = record { under = symbol f; kind = z.1; next = None } in
     let one = length-append z.0 (v ∷ []) in
     let h = written_counted w.nodes t in omega arith
-
-either_none : {A : Type 0} (o p : Option A) → option_or o p ≡ None → (o ≡ None) × (p ≡ None)
-either_none None p e = (refl, e)
-either_none (Some a) p e = absurd (zero_one (cc))
 
 module _ (B : Book) where
   -- the same of a symbol
@@ -81,14 +77,14 @@ module _ (B : Book) where
       let b = laid_after (suc s) ds (with_symbol B s d.role w) in
       (a.0 ++ b.0, b.1 ∙ ap (λ (xs : List SeenNode). xs ++ b.0) a.1 ∙ append_assoc w.nodes a.0 b.0)
 
-  pub laid_other : (s : ℕ) (ds : List Declaration) (w : Layout) (g : ℕ) → ((k : ℕ) (d : Declaration) → s + k ≡ g → slice_get ds k ≡ Some d → d.role ≡ Function → ⊥)
+  laid_other : (s : ℕ) (ds : List Declaration) (w : Layout) (g : ℕ) → ((k : ℕ) (d : Declaration) → s + k ≡ g → slice_get ds k ≡ Some d → d.role ≡ Function → ⊥)
       → slice_get (laid_from B s ds w).roots g ≡ slice_get w.roots g
   laid_other s [] w g n = refl
   laid_other s (d ∷ ds) w g n =
       laid_other (suc s) ds (with_symbol B s d.role w) g (λ k e i. n (suc k) e (omega (arith, i)))
       ∙ symbol_other s d.role w g (λ e. n 0 d (omega (arith, e)) refl)
 
-  pub laid_counted : (s : ℕ) (ds : List Declaration) (w : Layout) → length (laid_from B s ds w).nodes ≡ length w.nodes + sizes_from B s ds
+  laid_counted : (s : ℕ) (ds : List Declaration) (w : Layout) → length (laid_from B s ds w).nodes ≡ length w.nodes + sizes_from B s ds
   laid_counted s [] w = omega arith
   laid_counted s (d ∷ ds) w = let a = symbol_counted s d.role w in let b = laid_counted (suc s) ds (with_symbol B s d.role w) in omega arith
 
@@ -108,7 +104,7 @@ module _ (B : Book) where
   fixed_trees s (c ∷ ds) e zero d f r = judge (fixed_tree B (s + 0)) refl
     where
       none : symbol_fault B s c.role ≡ None
-      none = (either_none (symbol_fault B s c.role) (first_fault B (suc s) ds) e).0
+      none = (none_either (symbol_fault B s c.role) (first_fault B (suc s) ds) e).0
 
       told : judged B.signature s (fixed_tree B (s + 0)) ≡ None
       told = let i : s + 0 ≡ s = omega arith in let y : c.role ≡ Function = (let z : d.role ≡ c.role = cc in sym z ∙ r) in
@@ -119,7 +115,7 @@ module _ (B : Book) where
       judge (Some x) g = (x, g)
   fixed_trees s (c ∷ ds) e (suc k) d f r =
       let i : suc s + k ≡ s + suc k = omega arith in
-      let z = fixed_trees (suc s) ds (either_none (symbol_fault B s c.role) (first_fault B (suc s) ds) e).1 k d f r in
+      let z = fixed_trees (suc s) ds (none_either (symbol_fault B s c.role) (first_fault B (suc s) ds) e).1 k d f r in
       (z.0, ap (fixed_tree B) (sym i) ∙ z.1)
 
   module _ (t : Trees) where
@@ -141,7 +137,7 @@ module _ (B : Book) where
 
     placed : (f : ℕ) (ds : List Declaration) (w : Layout) (x : Tree) → layout_of B t ≡ laid_from B (suc f) ds (with_tree f w (Some x)) → f < length w.roots → Placed f w x
     placed f ds w x e l =
-        let z = written w.nodes x in
+        let z = laid_tree w.nodes x in
         let v : SeenNode = record { under = symbol f; kind = z.1; next = None } in
         let a = laid_after (suc f) ds (with_tree f w (Some x)) in
         let all = ap (λ (y : Layout). y.nodes) e ∙ a.1 ∙ append_assoc z.0 (v ∷ []) a.0 in
@@ -160,7 +156,7 @@ module _ (B : Book) where
         }
 
     -- a function's root is that of its fixed tree
-    pub laid_rooted : (s : ℕ) (ds : List Declaration) (w : Layout) → layout_of B t ≡ laid_from B s ds w → s + length ds ≤ length w.roots → Fixed s ds
+    laid_rooted : (s : ℕ) (ds : List Declaration) (w : Layout) → layout_of B t ≡ laid_from B s ds w → s + length ds ≤ length w.roots → Fixed s ds
         → (k : ℕ) (d : Declaration) → slice_get ds k ≡ Some d → d.role ≡ Function → Rooted B t (s + k)
     laid_rooted s [] w e l h k d f r = absurd (zero_one (cc))
     laid_rooted s (c ∷ ds) w e l h zero d f r =
@@ -185,7 +181,7 @@ module _ (B : Book) where
         subst (Rooted B t) i (laid_rooted (suc s) ds (with_symbol B s c.role w) e (omega arith) (later s c ds h) k d f r)
 
     -- each node is on a tree
-    pub laid_on : (s : ℕ) (ds : List Declaration) (w : Layout) → layout_of B t ≡ laid_from B s ds w → s + length ds ≤ length w.roots → Fixed s ds → (j : ℕ) → length w.nodes ≤ j → j < length (nodes_in t) → OnTree t j
+    laid_on : (s : ℕ) (ds : List Declaration) (w : Layout) → layout_of B t ≡ laid_from B s ds w → s + length ds ≤ length w.roots → Fixed s ds → (j : ℕ) → length w.nodes ≤ j → j < length (nodes_in t) → OnTree t j
     laid_on s [] w e l h j m n = let q = nodes_seen w e in absurd (omega arith)
     laid_on s (c ∷ ds) w e l h j m n = go c.role refl (λ q. let z = symbol_long s c.role w in laid_on (suc s) ds (with_symbol B s c.role w) e (omega arith) (later s c ds h) j q n)
       where

@@ -13,7 +13,7 @@ use Rattle.trees.specs.declared.node.Kind.{Kind}
 use Rattle.trees.specs.declared.node.Kind.TheVariants.{Rule as RuleNode, Branch}
 use Rattle.trees.specs.Views.{steps_of}
 use Rattle.trees.specs.Nodes.{Before, first_child, Is, is_rule, is_branch, Linked, no_link, link, Reaches, reach_here, reach_below, reach_next}
-use Rattle.trees.specs.Layout.{SeenKind, applies, branches, SeenNode, seen_kind, seen_node, written, children_written}
+use Rattle.trees.specs.Layout.{SeenKind, applies, branches, SeenNode, seen_kind, seen_node, laid_tree, laid_children}
 use Rattle.trees.specs.Standing.{size, sizes}
 use Rattle.trees.proofs.Places.{nth_at, nth_map}
 
@@ -24,17 +24,17 @@ link_of (branches p o) = o
 
 -- what was written comes after what stood
 mutual
-  pub written_after : (vs : List SeenNode) (t : Tree) → (more : List SeenNode) × ((written vs t).0 ≡ vs ++ more)
+  pub written_after : (vs : List SeenNode) (t : Tree) → (more : List SeenNode) × ((laid_tree vs t).0 ≡ vs ++ more)
   written_after vs (at_rule r) = ([], sym (append-nil vs))
   written_after vs (branch p ts) = children_after vs ts
 
-  pub children_after : (vs : List SeenNode) (ts : Children) → (more : List SeenNode) × ((children_written vs ts).0 ≡ vs ++ more)
+  children_after : (vs : List SeenNode) (ts : Children) → (more : List SeenNode) × ((laid_children vs ts).0 ≡ vs ++ more)
   children_after vs no_child = ([], sym (append-nil vs))
   children_after vs (child c t ts) =
-      let w = children_written vs ts in
+      let w = laid_children vs ts in
       let a = children_after vs ts in
       let b = written_after w.0 t in
-      let v : SeenNode = record { under = c; kind = (written w.0 t).1; next = w.1 } in
+      let v : SeenNode = record { under = c; kind = (laid_tree w.0 t).1; next = w.1 } in
       (a.0 ++ (b.0 ++ (v ∷ [])), ap (λ (xs : List SeenNode). xs ++ (v ∷ [])) (b.1 ∙ ap (λ (xs : List SeenNode). xs ++ b.0) a.1) ∙ append_assoc (vs ++ a.0) b.0 (v ∷ []) ∙ append_assoc vs a.0 (b.0 ++ (v ∷ [])))
 
 -- a link that is before a place is before a later one
@@ -44,28 +44,28 @@ before_later (Some k) h l = omega arith
 
 -- links go to what was written
 mutual
-  pub written_before : (vs : List SeenNode) (t : Tree) → Before (link_of (written vs t).1) (length (written vs t).0)
+  written_before : (vs : List SeenNode) (t : Tree) → Before (link_of (laid_tree vs t).1) (length (laid_tree vs t).0)
   written_before vs (at_rule r) = tt
   written_before vs (branch p ts) = children_before vs ts
 
-  pub children_before : (vs : List SeenNode) (ts : Children) → Before (children_written vs ts).1 (length (children_written vs ts).0)
+  children_before : (vs : List SeenNode) (ts : Children) → Before (laid_children vs ts).1 (length (laid_children vs ts).0)
   children_before vs no_child = tt
   children_before vs (child c t ts) =
-      let z = written (children_written vs ts).0 t in
-      let v : SeenNode = record { under = c; kind = z.1; next = (children_written vs ts).1 } in
+      let z = laid_tree (laid_children vs ts).0 t in
+      let v : SeenNode = record { under = c; kind = z.1; next = (laid_children vs ts).1 } in
       let one = length-append z.0 (v ∷ []) in omega arith
 
 -- as many nodes are written as there are, the root apart
 mutual
-  pub written_counted : (vs : List SeenNode) (t : Tree) → length (written vs t).0 + 1 ≡ length vs + size t
+  pub written_counted : (vs : List SeenNode) (t : Tree) → length (laid_tree vs t).0 + 1 ≡ length vs + size t
   written_counted vs (at_rule r) = refl
   written_counted vs (branch p ts) = let h = children_counted vs ts in omega arith
 
-  pub children_counted : (vs : List SeenNode) (ts : Children) → length (children_written vs ts).0 ≡ length vs + sizes ts
+  children_counted : (vs : List SeenNode) (ts : Children) → length (laid_children vs ts).0 ≡ length vs + sizes ts
   children_counted vs no_child = omega arith
   children_counted vs (child c t ts) =
-      let w = children_written vs ts in
-      let z = written w.0 t in
+      let w = laid_children vs ts in
+      let z = laid_tree w.0 t in
       let v : SeenNode = record { under = c; kind = z.1; next = w.1 } in
       let one = length-append z.0 (v ∷ []) in
       let h = children_counted vs ts in
@@ -86,8 +86,8 @@ module _ (rs : List Rule) where
   seen_link (Branch q o) = refl
 
   -- the first child of a root is before it
-  pub root_before : (vs : List SeenNode) (t : Tree) (k : Kind) → seen_kind rs k ≡ (written vs t).1 → Before (first_child k) (length (written vs t).0)
-  root_before vs t k e = subst (λ (o : Option ℕ). Before o (length (written vs t).0)) (sym (seen_link k ∙ ap link_of e)) (written_before vs t)
+  pub root_before : (vs : List SeenNode) (t : Tree) (k : Kind) → seen_kind rs k ≡ (laid_tree vs t).1 → Before (first_child k) (length (laid_tree vs t).0)
+  root_before vs t k e = subst (λ (o : Option ℕ). Before o (length (laid_tree vs t).0)) (sym (seen_link k ∙ ap link_of e)) (written_before vs t)
 
   module _ (ns : List Node) where
     abbrev seen_all : List SeenNode
@@ -108,18 +108,18 @@ module _ (rs : List Rule) where
 
     -- a tree that is written stands there
     mutual
-      pub written_is : (vs rest : List SeenNode) (t : Tree) (k : Kind) → seen_all ≡ (written vs t).0 ++ rest → seen_kind rs k ≡ (written vs t).1 → Is rs ns k t
+      pub written_is : (vs rest : List SeenNode) (t : Tree) (k : Kind) → seen_all ≡ (laid_tree vs t).0 ++ rest → seen_kind rs k ≡ (laid_tree vs t).1 → Is rs ns k t
       written_is vs rest (at_rule r) k e f = let z = seen_rule k r f in subst (λ (x : Kind). Is rs ns x (at_rule r)) (sym z.1) (is_rule z.2)
       written_is vs rest (branch p ts) k e f =
-          let z = seen_branch k p (children_written vs ts).1 f in
-          let h : Is rs ns (Branch z.0 (children_written vs ts).1) (branch (steps_of z.0) ts) = is_branch (children_linked vs rest ts e) in
-          subst (λ (x : Kind). Is rs ns x (branch p ts)) (sym z.1) (subst (λ (x : List ℕ). Is rs ns (Branch z.0 (children_written vs ts).1) (branch x ts)) z.2 h)
+          let z = seen_branch k p (laid_children vs ts).1 f in
+          let h : Is rs ns (Branch z.0 (laid_children vs ts).1) (branch (steps_of z.0) ts) = is_branch (children_linked vs rest ts e) in
+          subst (λ (x : Kind). Is rs ns x (branch p ts)) (sym z.1) (subst (λ (x : List ℕ). Is rs ns (Branch z.0 (laid_children vs ts).1) (branch x ts)) z.2 h)
 
-      pub children_linked : (vs rest : List SeenNode) (ts : Children) → seen_all ≡ (children_written vs ts).0 ++ rest → Linked rs ns (children_written vs ts).1 ts
+      pub children_linked : (vs rest : List SeenNode) (ts : Children) → seen_all ≡ (laid_children vs ts).0 ++ rest → Linked rs ns (laid_children vs ts).1 ts
       children_linked vs rest no_child e = no_link
       children_linked vs rest (child c t ts) e =
-          let w = children_written vs ts in
-          let z = written w.0 t in
+          let w = laid_children vs ts in
+          let z = laid_tree w.0 t in
           let v : SeenNode = record { under = c; kind = z.1; next = w.1 } in
           let m = written_after w.0 t in
           let f : seen_all ≡ z.0 ++ (v ∷ rest) = e ∙ append_assoc z.0 (v ∷ []) rest in
@@ -137,15 +137,15 @@ module _ (rs : List Rule) where
 
     -- from a root, or from its first child, links lead to all that was written
     mutual
-      pub written_reached : (vs rest : List SeenNode) (t : Tree) (k : Kind) → seen_all ≡ (written vs t).0 ++ rest → seen_kind rs k ≡ (written vs t).1 → (j : ℕ) → length vs ≤ j → j < length (written vs t).0 → Reaches ns j (first_child k)
+      pub written_reached : (vs rest : List SeenNode) (t : Tree) (k : Kind) → seen_all ≡ (laid_tree vs t).0 ++ rest → seen_kind rs k ≡ (laid_tree vs t).1 → (j : ℕ) → length vs ≤ j → j < length (laid_tree vs t).0 → Reaches ns j (first_child k)
       written_reached vs rest (at_rule r) k e f j l m = absurd (omega arith)
       written_reached vs rest (branch p ts) k e f j l m = subst (Reaches ns j) (sym (seen_link k ∙ ap link_of f)) (children_reached vs rest ts e j l m)
 
-      pub children_reached : (vs rest : List SeenNode) (ts : Children) → seen_all ≡ (children_written vs ts).0 ++ rest → (j : ℕ) → length vs ≤ j → j < length (children_written vs ts).0 → Reaches ns j (children_written vs ts).1
+      children_reached : (vs rest : List SeenNode) (ts : Children) → seen_all ≡ (laid_children vs ts).0 ++ rest → (j : ℕ) → length vs ≤ j → j < length (laid_children vs ts).0 → Reaches ns j (laid_children vs ts).1
       children_reached vs rest no_child e j l m = absurd (omega arith)
       children_reached vs rest (child c t ts) e j l m =
-          let w = children_written vs ts in
-          let z = written w.0 t in
+          let w = laid_children vs ts in
+          let z = laid_tree w.0 t in
           let v : SeenNode = record { under = c; kind = z.1; next = w.1 } in
           let n = written_after w.0 t in
           let f : seen_all ≡ z.0 ++ (v ∷ rest) = e ∙ append_assoc z.0 (v ∷ []) rest in

@@ -28,8 +28,8 @@ use Rattle.trees.specs.declared.store.Store.{Store}
 use Rattle.trees.specs.declared.trees.Trees.{Trees}
 use Rattle.trees.specs.Checks.{function_role, judged, symbol_fault, fault_at, first_fault}
 use Rattle.trees.specs.Rows.{chosen}
-use Rattle.trees.specs.Layout.{SeenKind, SeenNode, seen_kind, seen_node, written, Layout, with_tree, with_symbol, with_declared, laid_from, laid_out}
-use Rattle.trees.specs.Growth.{nodes_of, stored, AtStage, cost, Fits}
+use Rattle.trees.specs.Layout.{SeenKind, SeenNode, seen_kind, seen_node, laid_tree, Layout, with_tree, with_symbol, with_declared, laid_from, laid_out}
+use Rattle.trees.specs.Growth.{nodes_of, stored, AtStage, cost, WithinCost}
 use Rattle.trees.specs.Standing.{nodes_in, roots_in, layout_of, LaidOut, IsFunction, owed, TreeAdded}
 use Rattle.trees.proofs.Places.{nth_below}
 use Rattle.trees.proofs.Drafted.{draft_short, draft_ruled, owed_split}
@@ -70,10 +70,10 @@ pub complete : {A : Type 0} (a : A) (S : Signature) (f : ℕ) (o : Option Tree) 
 complete a S f o t e h = rw (e, h) refl
 
 -- how its trees lie with the tree of a symbol
-pub function_laid : (B : Book) (s : ℕ) (w : Layout) → IsFunction B.signature s → with_declared B s (slice_get B.signature.symbols s) w ≡ with_tree s w (fixed_tree B s)
+function_laid : (B : Book) (s : ℕ) (w : Layout) → IsFunction B.signature s → with_declared B s (slice_get B.signature.symbols s) w ≡ with_tree s w (fixed_tree B s)
 function_laid B s w h = ap (λ (o : Option Declaration). with_declared B s o w) h.1 ∙ ap (λ (r : Role). with_symbol B s r w) h.2
 
-pub nothing_laid : (B : Book) (s : ℕ) (w : Layout) → (IsFunction B.signature s → ⊥) → with_declared B s (slice_get B.signature.symbols s) w ≡ w
+nothing_laid : (B : Book) (s : ℕ) (w : Layout) → (IsFunction B.signature s → ⊥) → with_declared B s (slice_get B.signature.symbols s) w ≡ w
 nothing_laid B s w h = go (slice_get B.signature.symbols s) refl
   where
     go : (o : Option Declaration) → slice_get B.signature.symbols s ≡ o → with_declared B s o w ≡ w
@@ -86,7 +86,7 @@ nothing_laid B s w h = go (slice_get B.signature.symbols s) refl
         role Operation f = refl
 
 -- nodes, then a root's node after all: its tree is written
-root_laid : (R : List Rule) (before : List SeenNode) (cs ds : List Node) (f : ℕ) (links roots : List (Option ℕ)) (node : Node) (t : Tree) → (map (seen_node R) cs, seen_kind R node.kind) ≡ written before t
+root_laid : (R : List Rule) (before : List SeenNode) (cs ds : List Node) (f : ℕ) (links roots : List (Option ℕ)) (node : Node) (t : Tree) → (map (seen_node R) cs, seen_kind R node.kind) ≡ laid_tree before t
     → ds ≡ cs ++ (node ∷ []) → node.symbol ≡ f → node.next ≡ None → roots ≡ set links f (Some (length cs))
     → ◌≡◌ {A = Layout} (record { nodes = map (seen_node R) ds; roots = roots }) (with_tree f (record { nodes = before; roots = links }) (Some t))
 root_laid R before cs ds f links roots node t e pushed y next r =
@@ -96,8 +96,8 @@ root_laid R before cs ds f links roots node t e pushed y next r =
     ap₂ lay (ap (map (seen_node R)) pushed ∙ map-append (seen_node R) cs (node ∷ []) ∙ ap₂ one y next) (r ∙ ap (λ (n : ℕ). set links f (Some n)) (sym (length-map cs (seen_node R)))) ∙ ap put e
 
 -- a function's tree is added: its nodes, then its root
-pub function_added : (B : Book) (f : ℕ) (a b : Trees) (g : Store) (node : Node) (t : Tree) (most : ℕ) → IsFunction B.signature f → Fits a.store g most → fixed_tree B f ≡ Some t
-    → (stored B.rules g, seen_kind B.rules node.kind) ≡ written (stored B.rules a.store) t → node.symbol ≡ f → node.next ≡ None → nodes_in b ≡ nodes_of g ++ (node ∷ [])
+pub function_added : (B : Book) (f : ℕ) (a b : Trees) (g : Store) (node : Node) (t : Tree) (most : ℕ) → IsFunction B.signature f → WithinCost a.store g most → fixed_tree B f ≡ Some t
+    → (stored B.rules g, seen_kind B.rules node.kind) ≡ laid_tree (stored B.rules a.store) t → node.symbol ≡ f → node.next ≡ None → nodes_in b ≡ nodes_of g ++ (node ∷ [])
     → roots_in b ≡ set (roots_in a) f (Some (length (nodes_of g))) → most + owed B (suc f) ≡ owed B f → TreeAdded B f a b
 function_added B f a b g node t most d z e wrote y next pushed roots room = record {
   laid = root_laid B.rules (stored B.rules a.store) (nodes_of g) (nodes_in b) f (roots_in a) (roots_in b) node t wrote pushed y next roots

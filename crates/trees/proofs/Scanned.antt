@@ -32,7 +32,7 @@ mapped f (x ∷ xs) (y ∷ ys) d l h =
     let q = mapped f xs ys d (omega arith) (λ k i. h (suc k) (omega arith)) in
     cc
 
--- the library's test that a symbol is among places
+-- the test of Rattle's library that a symbol is among places
 pub contains_met : (s : ℕ) (hs : List (Option ℕ)) → list_any (λ h. option_eq eqb h (Some s)) hs ≡ is_met s hs
 contains_met s [] = refl
 contains_met s (h ∷ hs) = let e = compares h s (option_eq eqb h (Some s)) refl in let q = contains_met s hs in cc

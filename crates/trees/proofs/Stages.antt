@@ -20,7 +20,7 @@ use Rattle.trees.specs.declared.store.Store.{Store}
 use Rattle.trees.specs.Views.{steps_of}
 use Rattle.trees.specs.Rows.{chosen, new_heads}
 use Rattle.trees.specs.Layout.{SeenNode, applies, branches}
-use Rattle.trees.specs.Growth.{nodes_of, IsGrown, stored, AtStage, cost, Fits}
+use Rattle.trees.specs.Growth.{nodes_of, IsGrown, stored, AtStage, cost, WithinCost}
 use Rattle.trees.proofs.Growths.{under, grows_rule, grows_branch, children_none, GrownTo, due}
 
 module _ (B : Book) (short : (f : ℕ) → NoLonger B f longest_side) (n : ℕ) (ps : List (List ℕ)) (rs : List Rule) (stage : AtStage B n ps rs) where
@@ -50,7 +50,7 @@ module _ (B : Book) (short : (f : ℕ) → NoLonger B f longest_side) (n : ℕ) 
   branch_paid p e = within_stage.pays_children (n - 1) (let w = fuel_left in omega arith) p e
 
   -- nothing is added
-  pub none_added : (a : Store) → Fits a a (cost n rs)
+  pub none_added : (a : Store) → WithinCost a a (cost n rs)
   none_added a = let w = within_stage.pays in omega arith
 
 -- a shared position is short enough to go further
@@ -97,9 +97,9 @@ module _ (B : Book) (ps : List (List ℕ)) (m : List Bool) (n : ℕ) (p : List �
 
   -- the nodes that were added, up to a child's or to the last
   pub children_added : (i : ℕ) (a b : Store) (first : Option ℕ) (complete : Bool) (most : ℕ) → suc (paid_under longest_side (n - 1) p left (constructors_at p left)) ≤ most
-      → GrownTo B ps m n p hs i a b first complete → Fits a b most
+      → GrownTo B ps m n p hs i a b first complete → WithinCost a b most
   children_added i a b first complete most l h = let w = h.within in omega arith
 
   pub child_added : (i : ℕ) (a b c : Store) (first : Option ℕ) (complete : Bool) (most due : ℕ) → suc (paid_under longest_side (n - 1) p left (constructors_at p left)) ≤ most
-      → GrownTo B ps m n p hs i a b first complete → length (nodes_of b) + due ≤ length (nodes_of a) + paid_under longest_side (n - 1) p left (constructors_at p left) → Fits b c due → Fits a c most
+      → GrownTo B ps m n p hs i a b first complete → length (nodes_of b) + due ≤ length (nodes_of a) + paid_under longest_side (n - 1) p left (constructors_at p left) → WithinCost b c due → WithinCost a c most
   child_added i a b c first complete most due l h r f = omega arith

@@ -1,7 +1,6 @@
 -- What an answer tells, by cases.
-use Rattle.std.proofs.Common.{◌≡◌, ℕ, Bool, List, Some, None, Err, Option, sym, refl, ap, ◌∙◌, subst}
+use Rattle.std.proofs.Common.{◌≡◌, ℕ, Bool, List, Some, None, Option, sym, refl, ap, ◌∙◌, subst}
 use Rattle.std.specs.List.{slice_get}
-use Rattle.std.specs.Option.{ok_or}
 use Rattle.terms.specs.Signatures.{Signature}
 use Rattle.terms.proofs.Letters.{zero_one}
 use Rattle.rewriting.specs.Rules.{Rule}
@@ -13,7 +12,7 @@ use Rattle.trees.specs.declared.store.Store.{Store}
 use Rattle.trees.specs.Views.{steps_of}
 use Rattle.trees.specs.Rows.{heads_at, IsPlace}
 use Rattle.trees.specs.Sharing.{IsShared}
-use Rattle.trees.specs.Layout.{seen_kind, written}
+use Rattle.trees.specs.Layout.{seen_kind, laid_tree}
 use Rattle.trees.specs.Growth.{stored, IsGrown}
 
 -- a place of a rule
@@ -39,17 +38,13 @@ shared_none R m None h = refl
 shared_none R m (Some p) h = let e = h.1 in absurd (zero_one (cc))
 
 -- a tree
-pub grown_some : (S : Signature) (R : List Rule) (a b : Store) (o : Option Tree) (g : Grown) → IsGrown S R a b o (Some g) → (t : Tree) × (o ≡ Some t) × ((stored R b, seen_kind R g.kind) ≡ written (stored R a) t) × (g.complete ≡ is_complete S t)
+pub grown_some : (S : Signature) (R : List Rule) (a b : Store) (o : Option Tree) (g : Grown) → IsGrown S R a b o (Some g) → (t : Tree) × (o ≡ Some t) × ((stored R b, seen_kind R g.kind) ≡ laid_tree (stored R a) t) × (g.complete ≡ is_complete S t)
 grown_some S R a b None g h = absurd (zero_one (cc))
 grown_some S R a b (Some t) g h =
     let e = h.1 in
     let i : h.0 ≡ g = cc in
-    (t, refl, subst (λ (x : Grown). (stored R b, seen_kind R x.kind) ≡ written (stored R a) t) i h.2, ap (λ (x : Grown). x.complete) (sym i) ∙ h.3)
+    (t, refl, subst (λ (x : Grown). (stored R b, seen_kind R x.kind) ≡ laid_tree (stored R a) t) i h.2, ap (λ (x : Grown). x.complete) (sym i) ∙ h.3)
 
 pub grown_none : (S : Signature) (R : List Rule) (a b : Store) (o : Option Tree) → IsGrown S R a b o None → o ≡ None
 grown_none S R a b None h = refl
 grown_none S R a b (Some t) h = let e = h.1 in absurd (zero_one (cc))
-
-pub ok_none : {A F : Type 0} (o : Option A) (e f : F) → Err f ≡ ok_or o e → (o ≡ None) × (f ≡ e)
-ok_none None e f h = (refl, cc)
-ok_none (Some y) e f h = absurd (zero_one (cc))

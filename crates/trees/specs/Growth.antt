@@ -11,7 +11,7 @@ use Rattle.drafts.specs.Drafts.{longest_side}
 use Rattle.trees.specs.declared.node.Node.{Node}
 use Rattle.trees.specs.declared.grown.Grown.{Grown}
 use Rattle.trees.specs.declared.store.Store.{Store}
-use Rattle.trees.specs.Layout.{SeenNode, seen_kind, seen_node, written}
+use Rattle.trees.specs.Layout.{SeenNode, seen_kind, seen_node, laid_tree}
 
 -- the nodes that stand
 abbrev pub nodes_of : Store → List Node
@@ -24,7 +24,7 @@ stored rs a = map (seen_node rs) (nodes_of a)
 -- where there is a tree it was written after the nodes that stood; the answer is its root, and whether it is complete; and none where there is no tree
 abbrev pub IsGrown : Signature → List Rule → Store → Store → Option Tree → Option Grown → Type 0
 IsGrown S rs a b None g = g ≡ None
-IsGrown S rs a b (Some t) g = (k : Grown) × (g ≡ Some k) × ((stored rs b, seen_kind rs k.kind) ≡ written (stored rs a) t) × (k.complete ≡ is_complete S t)
+IsGrown S rs a b (Some t) g = (k : Grown) × (g ≡ Some k) × ((stored rs b, seen_kind rs k.kind) ≡ laid_tree (stored rs a) t) × (k.complete ≡ is_complete S t)
 
 -- the tree of some function that has a rule is grown at these open positions, with these rules left
 abbrev pub AtStage : Book → ℕ → List (List ℕ) → List Rule → Type 0
@@ -34,6 +34,6 @@ AtStage B n ps rs = (f : ℕ) × Ruled B f × Reached B f longest_side n ps rs
 abbrev pub cost : ℕ → List Rule → ℕ
 cost n rs = paid longest_side n rs
 
--- so many nodes were added at most, and one more has room
-abbrev pub Fits : Store → Store → ℕ → Type 0
-Fits a b most = length (nodes_of b) + 1 ≤ length (nodes_of a) + most
+-- so many nodes were added at most, the root that is still to come among them
+abbrev pub WithinCost : Store → Store → ℕ → Type 0
+WithinCost a b most = length (nodes_of b) + 1 ≤ length (nodes_of a) + most

@@ -24,26 +24,27 @@ pub record SeenNode : Type 0 where
   pub kind : SeenKind
   pub next : Option ℕ
 
--- a node under these rules
+-- what a node is, where its number counts rules of this list
 abbrev pub seen_kind : List Rule → Kind → SeenKind
 seen_kind rs (RuleNode k) = applies (slice_get rs k)
 seen_kind rs (Branch p first) = branches (steps_of p) first
 
+-- and the whole node
 abbrev pub seen_node : List Rule → Node → SeenNode
 seen_node rs n = record { under = symbol n.symbol; kind = seen_kind rs n.kind; next = n.next }
 
 -- A tree is written after the nodes that stand, all but its root, which is told: a branch's children from the last to the first, each after what is below it.
 abbrev mutual
-  pub written : List SeenNode → Tree → List SeenNode × SeenKind
-  written ns (at_rule r) = (ns, applies (Some r))
-  written ns (branch p ts) = let w = children_written ns ts in (w.0, branches p w.1)
+  pub laid_tree : List SeenNode → Tree → List SeenNode × SeenKind
+  laid_tree ns (at_rule r) = (ns, applies (Some r))
+  laid_tree ns (branch p ts) = let w = laid_children ns ts in (w.0, branches p w.1)
 
   -- and the place of the first child
-  pub children_written : List SeenNode → Children → List SeenNode × Option ℕ
-  children_written ns no_child = (ns, None)
-  children_written ns (child c t ts) =
-      let w = children_written ns ts in
-      let z = written w.0 t in
+  pub laid_children : List SeenNode → Children → List SeenNode × Option ℕ
+  laid_children ns no_child = (ns, None)
+  laid_children ns (child c t ts) =
+      let w = laid_children ns ts in
+      let z = laid_tree w.0 t in
       (z.0 ++ (record { under = c; kind = z.1; next = w.1 } ∷ []), Some (length z.0))
 
 -- nodes, and for each symbol the place of its root
@@ -54,7 +55,7 @@ pub record Layout : Type 0 where
 -- the tree of the function f is written, and then its root
 abbrev pub with_tree : ℕ → Layout → Option Tree → Layout
 with_tree f w None = w
-with_tree f w (Some t) = let z = written w.nodes t in record { nodes = z.0 ++ (record { under = symbol f; kind = z.1; next = None } ∷ []); roots = set w.roots f (Some (length z.0)) }
+with_tree f w (Some t) = let z = laid_tree w.nodes t in record { nodes = z.0 ++ (record { under = symbol f; kind = z.1; next = None } ∷ []); roots = set w.roots f (Some (length z.0)) }
 
 -- of a symbol in a role; one that is no function has no tree
 abbrev pub with_symbol : Book → ℕ → Role → Layout → Layout

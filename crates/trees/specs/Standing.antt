@@ -17,18 +17,19 @@ use Rattle.trees.specs.Nodes.{Before, first_child, Is, Reaches}
 use Rattle.trees.specs.Growth.{nodes_of, stored, cost}
 use Rattle.trees.specs.Layout.{Layout, with_declared, laid_out}
 
--- the nodes, and for each function the place of its root
+-- the nodes
 abbrev pub nodes_in : Trees → List Node
 nodes_in t = nodes_of t.store
 
+-- for each symbol the place of its root
 abbrev pub roots_in : Trees → List (Option ℕ)
 roots_in t = t.roots
 
--- they as they are seen, under the rules of a book
+-- both, the nodes as they are seen under the rules of a book
 abbrev pub layout_of : Book → Trees → Layout
 layout_of B t = record { nodes = stored B.rules t.store; roots = roots_in t }
 
--- the trees of the book lie as they are to, and nothing else
+-- nodes and roots are the layout of the book's trees, and nothing else
 abbrev pub LaidOut : Book → Trees → Type 0
 LaidOut B t = layout_of B t ≡ laid_out B
 
@@ -106,6 +107,7 @@ abbrev pub sizes_from : Book → ℕ → List Declaration → ℕ
 sizes_from B s [] = 0
 sizes_from B s (d ∷ ds) = size_as B s d.role + sizes_from B (suc s) ds
 
+-- of the whole book
 abbrev pub trees_size : Book → ℕ
 trees_size B = sizes_from B 0 B.signature.symbols
 

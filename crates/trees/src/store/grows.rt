@@ -5,7 +5,7 @@ ghost use Rattle.drafts.specs.Books.{book_of};
 ghost use Rattle.drafts.specs.Stores.{seen};
 ghost use Rattle.trees.specs.Opens.{open_of};
 ghost use Rattle.trees.specs.Rows.{chosen};
-ghost use Rattle.trees.specs.Growth.{nodes_of, IsGrown, Fits, AtStage, cost};
+ghost use Rattle.trees.specs.Growth.{nodes_of, IsGrown, WithinCost, AtStage, cost};
 
 use super::Store;
 use crate::grown::Grown;
@@ -45,7 +45,7 @@ impl Store {
     pub(crate) fn grow(&mut self, draft: &Draft, stage: &Stage, fuel: usize) -> Option<Grown>
         requires stage { AtStage (book_of (seen draft.now)) fuel (open_of stage.now.positions) (chosen stage.now.remain (book_of (seen draft.now)).rules) }
         requires room { length (nodes_of self.old) + cost fuel (chosen stage.now.remain (book_of (seen draft.now)).rules) ≤ 1024 }
-        ensures fits { Fits self.old self.new (cost fuel (chosen stage.now.remain (book_of (seen draft.now)).rules)) }
+        ensures fits { WithinCost self.old self.new (cost fuel (chosen stage.now.remain (book_of (seen draft.now)).rules)) }
         ensures grown { IsGrown (seen draft.now).signature (book_of (seen draft.now)).rules self.old self.new (the_grown (seen draft.now).signature fuel (open_of stage.now.positions) (chosen stage.now.remain (book_of (seen draft.now)).rules)) result }
     {
         if let Some(rule) = sole_open(draft, stage) {

@@ -11,9 +11,10 @@ use Rattle.drafts.specs.Books.{book_of}
 use Rattle.drafts.specs.Stores.{seen}
 use Rattle.trees.specs.Opens.{open_of}
 use Rattle.trees.specs.Rows.{chosen}
-use Rattle.trees.specs.Layout.{seen_kind, written}
+use Rattle.trees.specs.Layout.{seen_kind, laid_tree}
 use Rattle.trees.specs.Growth.{stored, IsGrown, cost}
-use Rattle.trees.proofs.Told.{grown_some, grown_none, ok_none}
+use Rattle.words.proofs.Sorts.{refused_none}
+use Rattle.trees.proofs.Told.{grown_some, grown_none}
 use Rattle.trees.proofs.Branches.{few_arguments}
 use Rattle.trees.proofs.Rooting.{call_open, Called, called, function_below, no_tree, incomplete, complete, function_added}
 use Rattle.trees.proofs.trees.Trees.add_function.Goals as goal
@@ -26,7 +27,7 @@ at_function c = called c.args.draft.now c.args.function (open_of c.of_call.resul
 
 -- the tree that was grown is the fixed tree, and it is written
 at_tree : (c : In_ok-grown) → (t : Tree) × (fixed_tree (book_of (seen c.args.draft.now)) c.args.function ≡ Some t)
-    × ((stored (book_of (seen c.args.draft.now)).rules c.grow.new.self, seen_kind (book_of (seen c.args.draft.now)).rules c.in_ok-grown.grown.kind) ≡ written (stored (book_of (seen c.args.draft.now)).rules c.args.self.now.store) t)
+    × ((stored (book_of (seen c.args.draft.now)).rules c.grow.new.self, seen_kind (book_of (seen c.args.draft.now)).rules c.in_ok-grown.grown.kind) ≡ laid_tree (stored (book_of (seen c.args.draft.now)).rules c.args.self.now.store) t)
     × (c.in_ok-grown.grown.complete ≡ is_complete (seen c.args.draft.now).signature t)
 at_tree c =
     let B = book_of (seen c.args.draft.now) in
@@ -51,7 +52,7 @@ returns-in_err-grown-clause-fault c =
     let f = c.args.function in
     let z = at_function (goal.at.returns-in_err-grown-clause-fault c).After-rules_of in
     let tree = grow S longest_side (open_of c.of_call.result) (chosen c.rules_of.result B.rules) in
-    let o = ok_none c.grow.result (NoTree f) c.in_err-grown.field-0.0 c.in_err-grown.ensures.value in
+    let o = refused_none c.grow.result (NoTree f) c.in_err-grown.field-0.0 c.in_err-grown.ensures.value in
     let n = grown_none S B.rules c.args.self.now.store c.grow.new.self tree (subst (IsGrown S B.rules c.args.self.now.store c.grow.new.self tree) o.0 c.grow.ensures.grown) in
     let p = err_from_is_err_and c.from_residual.result c.from_residual.ensures.1 in
     p.1 ∙ ap Err (p.2 ∙ o.1) ∙ no_tree tt S f (fixed_tree B f) (sym z.tree ∙ n)
