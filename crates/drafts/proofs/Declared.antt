@@ -7,6 +7,7 @@ use Rattle.terms.specs.Signatures.{Signature, Change, add_sort}
 use Rattle.terms.specs.Rows.{items}
 use Rattle.terms.specs.Views.{view, Changed}
 use Rattle.terms.proofs.Tables.{sort_added, sorts_fit}
+use Rattle.words.proofs.Faultless.{or_none}
 use Rattle.drafts.specs.declared.draft.Draft.{Draft as Store}
 use Rattle.drafts.specs.Drafts.{Sides, Draft}
 use Rattle.drafts.specs.Contents.{name_fault, sorts_full, sort_fault, constructor_fault, function_fault, all_below, with_sort}
@@ -14,7 +15,7 @@ use Rattle.drafts.specs.Views.{drafted}
 use Rattle.drafts.specs.Soundness.{is_sound, three_operations, Addable}
 use Rattle.drafts.specs.Stores.{seen, verdict}
 use Rattle.drafts.proofs.Verdicts.{passed}
-use Rattle.drafts.proofs.Kept.{none_either, none_test, sort_kept, operations_push, KnownSorts, new_constructor, constructor_kept, new_function, function_kept}
+use Rattle.drafts.proofs.Kept.{none_test, sort_kept, operations_push, KnownSorts, new_constructor, constructor_kept, new_function, function_kept}
 use Rattle.drafts.proofs.Lists.{below_wider}
 
 -- a draft over another signature
@@ -33,7 +34,7 @@ pub add_new_sort : (a : Store) (n m : List ℕ) (r : Option ℕ) (g : Table) →
 add_new_sort a n m r g h c =
     let D = seen a in
     let p = passed (sort_fault D n) n m h in
-    let f = none_either (name_fault D n) (sorts_full D) p.0 in
+    let f = or_none (name_fault D n) (sorts_full D) p.0 in
     let t = none_test (leb 16 (length D.signature.sorts)) _ None f.1 in
     let e = ap (λ (l : List ℕ). add_sort l D.signature) p.1 ∙ sort_added n D.signature (leb-false 16 (length D.signature.sorts) t.0) in
     let v = c.becomes ∙ ap (λ (z : Change). z.after) e in

@@ -1,24 +1,21 @@
 -- What is declared without fault leaves a draft sound.
-use Rattle.std.proofs.Common.{◌≡◌, ℕ, zero, suc, ◌+◌, ◌<◌, ◌≤◌, Bool, true, false, cond, not, ◌&&◌, ◌||◌, eqb, ltb, leb, List, [], ◌∷◌, ◌++◌, map, length, drop, Some, None, Option, sym, refl, ap, ◌∙◌, subst, inl, inr, append_assoc, append-nil, arith}
+use Rattle.std.proofs.Common.{◌≡◌, ℕ, zero, suc, ◌+◌, ◌<◌, ◌≤◌, Bool, true, false, cond, not, ◌&&◌, ◌||◌, eqb, ltb, leb, List, [], ◌∷◌, ◌++◌, map, length, drop, Some, None, Option, sym, refl, ap, ◌∙◌, subst, append_assoc, append-nil, arith}
 use Rattle.std.specs.Str.{bytes_eq}
+use Rattle.std.proofs.lemmas.Bool.Decides.{same_from_decides, Decides-eqb, Decides-like}
 use Rattle.std.proofs.lemmas.List.{length-append, map-append}
-use Rattle.std.proofs.lemmas.Bool.{and_parts, and_from, or_parts, or_from, not-true, not-false, both_ways, cases_Bool, eqb-true, eqb-false, eq-eqb, ne_eqb, lt-ltb, leb-true, leb-false, le-leb, ltb-false}
-use Rattle.std.specs.Option.{option_or}
+use Rattle.std.proofs.lemmas.Bool.{and_parts, and_from, or_parts, or_from, not-true, not-false, both_ways, eqb-true, eqb-false, lt-ltb, leb-true, leb-false, le-leb, ltb-false}
 use Rattle.terms.specs.declared.signature.Role.TheVariants.{Constructor, Function, Operation}
 use Rattle.terms.specs.Names.{well_formed, find_name}
 use Rattle.terms.specs.Roots.{is_constructor}
 use Rattle.terms.specs.Signatures.{Declaration, Signature, built_in}
 use Rattle.terms.proofs.Letters.{zero_one}
+use Rattle.words.proofs.Faultless.{or_none}
 use Rattle.drafts.specs.Drafts.{Sides, Draft, in_turn, total, most_rules}
 use Rattle.drafts.specs.Contents.{names, is_found, is_taken, is_keyword, some_rule, all_below, name_fault, sorts_fault, sorts_full, sort_fault, symbol_fault, constructor_fault, function_fault, with_sort, with_symbol}
 use Rattle.drafts.specs.Soundness.{distinct, sorts_below, no_number_made, begins_with, same_role, same_declaration, no_operation, promise_fits, promises_fit, stand_in_turn, contents_sound, is_sound}
 use Rattle.drafts.proofs.Lists.{found_cons, found_append, below_wider, total_push}
 
 -- no refusal, in parts
-pub none_either : {F : Type 0} (o p : Option F) → option_or o p ≡ None → (o ≡ None) × (p ≡ None)
-none_either (Some f) p h = absurd (zero_one (cc))
-none_either None p h = (refl, h)
-
 pub none_test : {F : Type 0} (t : Bool) (f : F) (o : Option F) → cond t (Some f) o ≡ None → (t ≡ false) × (o ≡ None)
 none_test true f o h = absurd (zero_one (cc))
 none_test false f o h = (refl, h)
@@ -28,11 +25,8 @@ no_rules [] h = refl
 no_rules (r ∷ rs) h = absurd (zero_one (cc))
 
 -- names that are the same
-eqb_swap : (a b : ℕ) → eqb a b ≡ eqb b a
-eqb_swap a b = elim (cases_Bool (eqb a b)) [
-  | inl h ↦ h ∙ sym (eq-eqb b a (sym (eqb-true a b h)))
-  | inr h ↦ h ∙ sym (ne_eqb b a (λ e. eqb-false a b h (sym e)))
-]
+pub eqb_swap : (a b : ℕ) → eqb a b ≡ eqb b a
+eqb_swap a b = same_from_decides (eqb a b) (eqb b a) (Decides-eqb a b) (Decides-like (eqb b a) sym sym (Decides-eqb b a))
 
 same_swap : (m n : List ℕ) → bytes_eq m n ≡ bytes_eq n m
 same_swap [] [] = refl
@@ -153,7 +147,7 @@ new_name D n h =
 pub sort_kept : (D : Draft) (n : List ℕ) → is_sound D ≡ true → sort_fault D n ≡ None → is_sound (with_sort D n) ≡ true
 sort_kept D n h e =
     let S = D.signature in
-    let m = new_name D n (none_either (name_fault D n) (sorts_full D) e).0 in
+    let m = new_name D n (or_none (name_fault D n) (sorts_full D) e).0 in
     let c = parts_of S D.promised (and_parts (contents_sound S D.promised) _ h).0 in
     let T = (with_sort D n).signature in
     let fresh : distinct (names T) ≡ true = ap distinct (append_assoc S.sorts (n ∷ []) _) ∙ distinct_insert S.sorts (map (λ (d : Declaration). d.name) S.symbols) n c.apart m.free in
@@ -210,8 +204,8 @@ pub record NewConstructor (D : Draft) (n ks : List ℕ) (k : ℕ) : Type 0 where
 
 pub new_constructor : (D : Draft) (n ks : List ℕ) (k : ℕ) → constructor_fault D n ks k ≡ None → NewConstructor D n ks k
 new_constructor D n ks k h =
-    let q = none_either (symbol_fault D n ks k) _ h in
-    let a = none_either (name_fault D n) (sorts_fault D ks k) q.0 in
+    let q = or_none (symbol_fault D n ks k) _ h in
+    let a = or_none (name_fault D n) (sorts_fault D ks k) q.0 in
     let c = none_test (ltb k 2) _ _ q.1 in
     let d = none_test (leb 96 (length D.signature.symbols)) _ _ c.1 in
     record { name = new_name D n a.0; sorts = known_sorts D ks k a.1; own = ltb-false k 2 c.0; left = leb-false 96 (length D.signature.symbols) d.0 }
@@ -231,8 +225,8 @@ pub record NewFunction (D : Draft) (n ks : List ℕ) (k p : ℕ) : Type 0 where
 
 pub new_function : (D : Draft) (n ks : List ℕ) (k p : ℕ) → function_fault D n ks k p ≡ None → NewFunction D n ks k p
 new_function D n ks k p h =
-    let q = none_either (symbol_fault D n ks k) _ h in
-    let a = none_either (name_fault D n) (sorts_fault D ks k) q.0 in
+    let q = or_none (symbol_fault D n ks k) _ h in
+    let a = or_none (name_fault D n) (sorts_fault D ks k) q.0 in
     let c = none_test (eqb p 0 || ltb most_rules (total D.promised + p)) _ _ q.1 in
     let d = none_test (leb 96 (length D.signature.symbols)) _ _ c.1 in
     let e = or_parts (eqb p 0) (ltb most_rules (total D.promised + p)) c.0 in

@@ -50,7 +50,7 @@ module _ (S : Signature) where
   sorts_out w ks i vs e h = ap (later_by i) (ap (λ (ls : List ℕ). left_sorts S ls vs (drop i w)) e ∙ at_drop_more (left_sorts S [] vs) w i 0 h)
 
 -- a symbol has at most four arguments
-few_declared : (es : List Entry) (s : ℕ) → length (args_in (slice_get (map declaration es) s)) ≤ 4
+pub few_declared : (es : List Entry) (s : ℕ) → length (args_in (slice_get (map declaration es) s)) ≤ 4
 few_declared [] s = omega arith
 few_declared (e ∷ es) zero = items_fit e.args
 few_declared (e ∷ es) (suc s) = few_declared es s

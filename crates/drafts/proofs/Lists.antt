@@ -47,7 +47,7 @@ pub total_push : (ps : List ℕ) (p : ℕ) → total (ps ++ (p ∷ [])) ≡ tota
 total_push [] p = omega arith
 total_push (q ∷ ps) p = let h = total_push ps p in omega arith
 
--- sums and counts by the library's words
+-- sums and counts by words of Rattle's library
 pub total_sum : (ps : List ℕ) → total ps ≡ sum_by (λ p. p) ps
 total_sum = is_sum_by total (λ p. p) refl (λ p ps. refl)
 

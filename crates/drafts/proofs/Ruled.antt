@@ -6,6 +6,7 @@ use Rattle.terms.proofs.Letters.{zero_one}
 use Rattle.terms.proofs.Tables.{symbols_fit, items_fit}
 use Rattle.terms.specs.declared.row.Row.{Row}
 use Rattle.terms.specs.Rows.{items, Longer}
+use Rattle.words.proofs.Faultless.{or_none}
 use Rattle.drafts.specs.declared.draft.Draft.{Draft as Store}
 use Rattle.drafts.specs.declared.span.Span.{Span}
 use Rattle.drafts.specs.Drafts.{Sides, sides, Draft, awaited, letters_in, longest_side, most_letters}
@@ -14,7 +15,7 @@ use Rattle.drafts.specs.Views.{sides_of, drafted, in_a_row}
 use Rattle.drafts.specs.Soundness.{contents_sound, is_sound}
 use Rattle.drafts.specs.Stores.{seen, verdict}
 use Rattle.drafts.proofs.Verdicts.{passed}
-use Rattle.drafts.proofs.Kept.{none_either, none_test, parts_of}
+use Rattle.drafts.proofs.Kept.{none_test, parts_of}
 use Rattle.drafts.proofs.Turns.{turn_short, turn_below, rule_kept}
 use Rattle.drafts.proofs.Pools.{row_push, row_letters, rules_same, laid_below, laid_left, laid_right}
 
@@ -31,7 +32,7 @@ accepted D q h = go (awaited D) refl h
     go : (o : Option ℕ) → awaited D ≡ o → fault_under D o q ≡ None → Accepted D q
     go None e g = absurd (zero_one (cc))
     go (Some f) e g =
-        let a = none_either (rule_fault D.signature f q) _ g in
+        let a = or_none (rule_fault D.signature f q) _ g in
         let b = none_test (no_room D.rules q) _ None a.1 in
         record { function = f; turn = e; fine = a.0; room = ltb-false most_letters (letters_in D.rules + (length q.left + length q.right)) b.0 }
 

@@ -21,13 +21,14 @@ use Rattle.words.proofs.Faultless.{tells_whole}
 use Rattle.words.proofs.Sorts.{sorted_words}
 use Rattle.rewriting.proofs.Occurrences.{different_linear}
 use Rattle.rewriting.specs.Rules.{Rule, left_side, Linear, SortCorrect}
+use Rattle.words.proofs.Faultless.{or_none}
 use Rattle.drafts.specs.declared.fault.RuleFault.{RuleFault}
 use Rattle.drafts.specs.Drafts.{Sides, sides, in_turn, longest_side}
 use Rattle.drafts.specs.Rules.{is_cell, is_variable, is_function, stands_in, first_that, bad_length, first_cell, starts_with, inner_function, first_twice, is_new, first_new, left_sorts, none_known, right_wrong, at_place, sort_wrong, word_faults, shape_faults, rule_fault}
 use Rattle.drafts.specs.Soundness.{same_declaration, same_role, begins_with, promise_fits, promises_fit, faultless, stand_in_turn}
 use Rattle.drafts.specs.Statements.{Patterns, written}
 use Rattle.drafts.specs.Books.{rule_between, rule_of, rule_before, rules_read}
-use Rattle.drafts.proofs.Kept.{none_either, none_test, same_equal}
+use Rattle.drafts.proofs.Kept.{none_test, same_equal}
 use Rattle.drafts.proofs.Ruled.{good_length}
 use Rattle.drafts.proofs.RuleTerms.{letter_for, that_cons, var_is, patterns_of, mem_word, word_mem, linear_word, left_sorted, var_below, that_at}
 
@@ -88,7 +89,7 @@ record NoFault (S : Signature) (f : ℕ) (q : Sides) : Type 0 where
 
 no_fault : (S : Signature) (f : ℕ) (q : Sides) → rule_fault S f q ≡ None → NoFault S f q
 no_fault S f q h =
-    let z = none_either (word_faults S q) (shape_faults S f q) h in
+    let z = or_none (word_faults S q) (shape_faults S f q) h in
     let a = none_test (bad_length q.left) _ _ z.0 in
     let b = none_test (bad_length q.right) _ _ a.1 in
     let c = place_none _ (first_not (is_declared S) q.left) _ b.1 in

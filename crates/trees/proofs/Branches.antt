@@ -1,15 +1,12 @@
 -- A branch of a tree that is grown from a draft.
-use Rattle.std.proofs.Common.{◌≡◌, ℕ, zero, suc, ◌+◌, ◌-◌, ◌<◌, ◌≤◌, Bool, true, ◌&&◌, List, [], ◌∷◌, ◌++◌, map, length, get_or, take, Some, None, Option, sym, refl, ap, ◌∙◌, subst, ap₂, append-nil, arith, filter}
+use Rattle.std.proofs.Common.{◌≡◌, ℕ, suc, ◌+◌, ◌-◌, ◌<◌, ◌≤◌, Bool, true, ◌&&◌, List, [], ◌∷◌, ◌++◌, map, length, get_or, take, Some, None, Option, sym, refl, ap, ◌∙◌, subst, ap₂, append-nil, arith, filter}
 use mathlib.Core.List.{Memᴰ}
-use Rattle.std.specs.List.{slice_get}
-use Rattle.terms.specs.declared.signature.Entry.{Entry}
 use Rattle.terms.specs.declared.signature.Signature.{Signature as Table}
 use Rattle.terms.specs.Rows.{items}
-use Rattle.terms.proofs.Tables.{items_fit}
 use Rattle.terms.specs.Terms.{symbol}
 use Rattle.terms.specs.Signatures.{Signature}
-use Rattle.terms.specs.Roots.{args_in, head_args}
-use Rattle.terms.specs.Views.{declaration, view}
+use Rattle.terms.specs.Roots.{head_args}
+use Rattle.terms.specs.Views.{view}
 use Rattle.rewriting.specs.Rules.{Rule, Book}
 use Rattle.rewriting.specs.Trees.{Node as Tree}
 use Rattle.rewriting.specs.FixedTree.{has_at, first_shared, constructors_at}
@@ -31,6 +28,7 @@ use Rattle.trees.specs.Sharing.{IsShared}
 use Rattle.trees.specs.Nodes.{Linked, Leads}
 use Rattle.trees.specs.Layout.{SeenNode, seen_kind, laid_tree, laid_children}
 use Rattle.trees.specs.Growth.{nodes_of, IsGrown, stored, AtStage, cost, WithinCost}
+use Rattle.drafts.proofs.LeftSorts.{few_declared}
 use Rattle.trees.proofs.Drafted.{draft_short}
 use Rattle.trees.proofs.Scanned.{covers_same}
 use Rattle.trees.proofs.Layouts.{children_linked}
@@ -43,12 +41,7 @@ use Rattle.trees.proofs.Stages.{fuel_left, open_room, child_stage, branch_paid, 
 
 -- a symbol takes at most four arguments
 pub few_arguments : (g : Table) (s : ℕ) → length (head_args (view g) (symbol s)) ≤ 4
-few_arguments g s = go (items g.symbols) s
-  where
-    go : (es : List Entry) (k : ℕ) → length (args_in (slice_get (map declaration es) k)) ≤ 4
-    go [] k = omega arith
-    go (e ∷ es) zero = items_fit e.args
-    go (e ∷ es) (suc k) = go es k
+few_arguments g s = few_declared (items g.symbols) s
 
 -- no rule is left alone, and the rules that remain share a position
 pub record Branching (d : Draft) (ps : List (List ℕ)) (m : List Bool) (n : ℕ) (s : Shared) : Type 0 where

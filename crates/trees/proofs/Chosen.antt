@@ -16,6 +16,7 @@ use Rattle.drafts.specs.declared.draft.Draft.{Draft as Store}
 use Rattle.drafts.specs.Rules.{starts_with}
 use Rattle.drafts.specs.Books.{book_of}
 use Rattle.drafts.specs.Stores.{seen}
+use Rattle.drafts.proofs.Kept.{eqb_swap}
 use Rattle.trees.proofs.Places.{nth_there}
 use Rattle.trees.proofs.LeftSides.{left_at}
 use Rattle.trees.specs.Rows.{head_symbol, chosen, heads_at, is_head, is_met, put, new_heads, IsNext}
@@ -125,9 +126,6 @@ kept_without t c (d ∷ ds) = go (same_head c d) (kept_without t c ds)
         → filter t (cond (not b) (d ∷ without c ds) (without c ds)) ≡ cond (cond b false (t d)) (d ∷ filter (λ d. cond (same_head c d) false (t d)) ds) (filter (λ d. cond (same_head c d) false (t d)) ds)
     go true e = e
     go false e = cc
-
-eqb_swap : (m n : ℕ) → eqb m n ≡ eqb n m
-eqb_swap m n = same_from_decides (eqb m n) (eqb n m) (Decides-eqb m n) (Decides-like (eqb n m) sym sym (Decides-eqb n m))
 
 unmet_none : (before : List (Option ℕ)) (c : Head) → unmet before c ≡ unmet (before ++ (None ∷ [])) c
 unmet_none before (cell n) = refl

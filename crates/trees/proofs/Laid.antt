@@ -12,7 +12,7 @@ use Rattle.terms.proofs.Letters.{zero_one}
 use Rattle.rewriting.specs.Rules.{Book}
 use Rattle.rewriting.specs.Trees.{Node as Tree}
 use Rattle.rewriting.specs.FixedTree.{fixed_tree}
-use Rattle.drafts.proofs.Kept.{none_either}
+use Rattle.words.proofs.Faultless.{or_none}
 use Rattle.trees.specs.declared.node.Node.{Node}
 use Rattle.trees.specs.declared.trees.Trees.{Trees}
 use Rattle.trees.specs.Nodes.{Before, first_child, Is, Reaches}
@@ -104,7 +104,7 @@ module _ (B : Book) where
   fixed_trees s (c ∷ ds) e zero d f r = judge (fixed_tree B (s + 0)) refl
     where
       none : symbol_fault B s c.role ≡ None
-      none = (none_either (symbol_fault B s c.role) (first_fault B (suc s) ds) e).0
+      none = (or_none (symbol_fault B s c.role) (first_fault B (suc s) ds) e).0
 
       told : judged B.signature s (fixed_tree B (s + 0)) ≡ None
       told = let i : s + 0 ≡ s = omega arith in let y : c.role ≡ Function = (let z : d.role ≡ c.role = cc in sym z ∙ r) in
@@ -115,7 +115,7 @@ module _ (B : Book) where
       judge (Some x) g = (x, g)
   fixed_trees s (c ∷ ds) e (suc k) d f r =
       let i : suc s + k ≡ s + suc k = omega arith in
-      let z = fixed_trees (suc s) ds (none_either (symbol_fault B s c.role) (first_fault B (suc s) ds) e).1 k d f r in
+      let z = fixed_trees (suc s) ds (or_none (symbol_fault B s c.role) (first_fault B (suc s) ds) e).1 k d f r in
       (z.0, ap (fixed_tree B) (sym i) ∙ z.1)
 
   module _ (t : Trees) where

@@ -26,7 +26,7 @@ size_none : (b : Bool) (o : Option WordFault) → cond b (Some Length) o ≡ Non
 size_none true o h = absurd (zero_one (cc))
 size_none false o h = (refl, h)
 
-or_none : {A : Type 0} (o p : Option A) → option_or o p ≡ None → (o ≡ None) × (p ≡ None)
+pub or_none : {A : Type 0} (o p : Option A) → option_or o p ≡ None → (o ≡ None) × (p ≡ None)
 or_none (Some a) p h = absurd (zero_one (cc))
 or_none None p h = (refl, h)
 
