@@ -1,4 +1,7 @@
 // How symbols, letters, parts of words and positions are printed.
+ghost use Rattle.std.specs.Prelude.{◌≡◌, length};
+ghost use Rattle.terms.specs.Views.{view};
+
 use std::fmt;
 use terms::letter::Letter;
 use terms::signature::Signature;
@@ -51,7 +54,11 @@ pub struct Letters<'a> {
 
 impl<'a> Letters<'a> {
     // All of a word.
-    pub fn whole(signature: &'a Signature, word: &'a [u64]) -> Letters<'a> {
+    pub fn whole(signature: &'a Signature, word: &'a [u64]) -> Letters<'a>
+        ensures signature { view result.signature.now ≡ view signature.now }
+        ensures word { result.word.now ≡ word.now }
+        ensures part { (result.part.start ≡ 0) × (result.part.len ≡ length word.now) }
+    {
         Letters {
             signature,
             word,
