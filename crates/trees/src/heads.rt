@@ -41,11 +41,11 @@ fn shared_heads(draft: &Draft, path: &Path, remain: &Mask) -> Option<Heads>
 }
 
 // The first open position at which every rule that remains has a constructor.
-pub(crate) fn first_shared(draft: &Draft, stage: &Stage) -> Option<Shared>
-    ensures { IsShared (book_of (seen draft.now)).rules stage.now.remain (first_shared (open_of stage.now.positions) (chosen stage.now.remain (book_of (seen draft.now)).rules)) result }
+pub(crate) fn first_shared(draft: &Draft, stage: Stage<'_>) -> Option<Shared>
+    ensures { IsShared (book_of (seen draft.now)).rules stage.entry.remain.now (first_shared (open_of stage.entry.positions.now) (chosen stage.entry.remain.now (book_of (seen draft.now)).rules)) result }
 {
     stage.positions.paths().iter().find_map(|path| {
-        let heads = shared_heads(draft, path, &stage.remain)?;
+        let heads = shared_heads(draft, path, stage.remain)?;
         Some(Shared { path: *path, heads })
     })
 }

@@ -48,7 +48,7 @@ fn starts_with(word: &[u64], function: u8) -> bool
 pub(crate) fn with_head(heads: &Heads, symbol: u8) -> Mask
     ensures { result ≡ map (is_head symbol) heads.now }
 {
-    heads.map(|head| head == Some(symbol))
+    from_fn(|rule| heads[rule] == Some(symbol))
 }
 
 // The first rule from a place on that remains.
@@ -61,10 +61,10 @@ fn next_rule(draft: &Draft, remain: &Mask, from: usize) -> Option<usize>
 }
 
 // The one rule that remains, if it has a variable at each open position.
-pub(crate) fn sole_open(draft: &Draft, stage: &Stage) -> Option<usize>
-    ensures { IsPlace (book_of (seen draft.now)).rules (sole_open (open_of stage.now.positions) (chosen stage.now.remain (book_of (seen draft.now)).rules)) result }
+pub(crate) fn sole_open(draft: &Draft, stage: Stage<'_>) -> Option<usize>
+    ensures { IsPlace (book_of (seen draft.now)).rules (sole_open (open_of stage.entry.positions.now) (chosen stage.entry.remain.now (book_of (seen draft.now)).rules)) result }
 {
-    let rule = next_rule(draft, &stage.remain, 0)?;
-    let sole = next_rule(draft, &stage.remain, rule + 1).is_none();
-    (sole && all_variables(draft, rule, &stage.positions)).then_some(rule)
+    let rule = next_rule(draft, stage.remain, 0)?;
+    let sole = next_rule(draft, stage.remain, rule + 1).is_none();
+    (sole && all_variables(draft, rule, stage.positions)).then_some(rule)
 }

@@ -10,7 +10,7 @@ use terms::row::Row;
 
 impl Open {
     // The open positions of a call with so many arguments.
-    // At most four, here, in `push_below` and in `opened`: a type of arities would be made for each call and taken apart in it.
+    // At most four, here, in `push_below` and in `push_opened`: a type of arities would be made for each call and taken apart in it.
     pub(crate) fn of_call(arity: usize) -> Open
         requires { arity ≤ 4 }
         ensures { open_of result ≡ below [] 1 arity }
@@ -21,7 +21,7 @@ impl Open {
     }
 
     // No position. As with nodes, a row with a filler of its own.
-    fn none() -> Open
+    pub(crate) fn none() -> Open
         ensures { open_of result ≡ [] }
     {
         Open {
@@ -49,22 +49,21 @@ impl Open {
         }
     }
 
-    // These with so many arguments below a position in its place.
-    pub(crate) fn opened(&self, path: &Path, arity: usize) -> Open
+    // Those of another, with so many arguments below a position in its place.
+    // Added here and not answered: an answer of this size is moved once more for each branch.
+    pub(crate) fn push_opened(&mut self, others: &Open, path: &Path, arity: usize)
         requires few { arity ≤ 4 }
         requires short { length (steps_of path.now) < 64 }
-        requires room { length (the_opened (open_of self.now) (steps_of path.now) arity) ≤ 64 }
-        ensures { open_of result ≡ the_opened (open_of self.now) (steps_of path.now) arity }
+        requires room { length (open_of self.old) + length (the_opened (open_of others.now) (steps_of path.now) arity) ≤ 64 }
+        ensures { open_of self.new ≡ open_of self.old ++ the_opened (open_of others.now) (steps_of path.now) arity }
     {
-        let mut open = Open::none();
-        for other in self.paths() {
+        for other in others.paths() {
             if other == path {
-                open.push_below(path, arity);
+                self.push_below(path, arity);
             } else {
-                open.push(*other);
+                self.push(*other);
             }
         }
-        open
     }
 
     // The open positions as paths, in their order.

@@ -12,6 +12,7 @@ use crate::grown::Grown;
 use crate::heads::{arity_of, first_shared, new_head};
 use crate::masks::{sole_open, with_head};
 use crate::node::{Kind, Node};
+use crate::open::Open;
 use crate::stage::Stage;
 use drafts::draft::{Draft, MOST_RULES};
 use terms::row::Row;
@@ -42,11 +43,11 @@ impl Store {
     }
 
     // The tree for the open positions and the rules that remain, with so many branches in a row at most: the nodes below its root are added.
-    pub(crate) fn grow(&mut self, draft: &Draft, stage: &Stage, fuel: usize) -> Option<Grown>
-        requires stage { AtStage (book_of (seen draft.now)) fuel (open_of stage.now.positions) (chosen stage.now.remain (book_of (seen draft.now)).rules) }
-        requires room { length (nodes_of self.old) + cost fuel (chosen stage.now.remain (book_of (seen draft.now)).rules) ≤ 1024 }
-        ensures fits { WithinCost self.old self.new (cost fuel (chosen stage.now.remain (book_of (seen draft.now)).rules)) }
-        ensures grown { IsGrown (seen draft.now).signature (book_of (seen draft.now)).rules self.old self.new (the_grown (seen draft.now).signature fuel (open_of stage.now.positions) (chosen stage.now.remain (book_of (seen draft.now)).rules)) result }
+    pub(crate) fn grow(&mut self, draft: &Draft, stage: Stage<'_>, fuel: usize) -> Option<Grown>
+        requires stage { AtStage (book_of (seen draft.now)) fuel (open_of stage.positions.now) (chosen stage.remain.now (book_of (seen draft.now)).rules) }
+        requires room { length (nodes_of self.old) + cost fuel (chosen stage.remain.now (book_of (seen draft.now)).rules) ≤ 1024 }
+        ensures fits { WithinCost self.old self.new (cost fuel (chosen stage.entry.remain.now (book_of (seen draft.now)).rules)) }
+        ensures grown { IsGrown (seen draft.now).signature (book_of (seen draft.now)).rules self.old self.new (the_grown (seen draft.now).signature fuel (open_of stage.entry.positions.now) (chosen stage.entry.remain.now (book_of (seen draft.now)).rules)) result }
     {
         if let Some(rule) = sole_open(draft, stage) {
             return Some(Grown {
@@ -61,11 +62,13 @@ impl Store {
         for i in (0..MOST_RULES).rev() {
             if let Some(symbol) = new_head(&shared.heads, i) {
                 let arity = arity_of(draft.declared().signature, symbol);
+                let mut positions = Open::none();
+                positions.push_opened(stage.positions, &shared.path, arity);
                 let below = Stage {
-                    positions: stage.positions.opened(&shared.path, arity),
-                    remain: with_head(&shared.heads, symbol),
+                    positions: &positions,
+                    remain: &with_head(&shared.heads, symbol),
                 };
-                let child = self.grow(draft, &below, fuel - 1)?;
+                let child = self.grow(draft, below, fuel - 1)?;
                 complete = complete && child.complete;
                 children = self.push(Node {
                     symbol,

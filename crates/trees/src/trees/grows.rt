@@ -80,12 +80,12 @@ impl Trees {
         ensures added { OnOk result (TreeAdded (book_of (seen draft.now)) function self.old self.new) }
     {
         let stage = Stage {
-            positions: Open::of_call(arity_of(draft.declared().signature, function)),
-            remain: rules_of(draft, function),
+            positions: &Open::of_call(arity_of(draft.declared().signature, function)),
+            remain: &rules_of(draft, function),
         };
         let grown = self
             .store
-            .grow(draft, &stage, LONGEST_SIDE)
+            .grow(draft, stage, LONGEST_SIDE)
             .ok_or(CheckFault::NoTree(function))?;
         if !grown.complete {
             return Err(CheckFault::Incomplete(function));

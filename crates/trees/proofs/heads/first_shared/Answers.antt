@@ -9,4 +9,4 @@ pub returns : goal.returns
 returns c =
     let y = c.find_map.ensures.runs in
     let items = c.iter.ensures.runs y.0 y.0.seen in
-    shared_found c.args.stage.now.remain (book_of (seen c.args.draft.now)).rules _ _ (paths_of c.args.stage.now.positions) y.0 (search rules) (λ x r q k. search (rules, tests)) (λ a r q k. search rules) c.find_map.result y.2
+    shared_found c.args.stage.remain.now (book_of (seen c.args.draft.now)).rules _ _ (paths_of c.args.stage.positions.now) y.0 (search rules) (λ x r q k. search (rules, tests)) (λ a r q k. search rules) c.find_map.result y.2

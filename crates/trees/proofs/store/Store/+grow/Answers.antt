@@ -1,9 +1,9 @@
-use Rattle.std.proofs.Common.{◌≡◌, ℕ, ◌-◌, Bool, ◌&&◌, length, sym, refl, ap, ◌∙◌, subst, arith, rules}
+use Rattle.std.proofs.Common.{◌≡◌, ℕ, ◌-◌, ◌≤◌, Bool, ◌&&◌, List, ◌++◌, length, sym, refl, ap, ◌∙◌, subst, arith, rules}
 use Rattle.terms.specs.Terms.{symbol}
 use Rattle.terms.specs.Signatures.{Signature}
 use Rattle.terms.specs.Roots.{head_args}
 use Rattle.rewriting.specs.FixedTree.{first_shared}
-use Rattle.rewriting.specs.Growing.{sole_open, grow}
+use Rattle.rewriting.specs.Growing.{sole_open, opened, grow}
 use Rattle.drafts.specs.Books.{book_of}
 use Rattle.drafts.specs.Stores.{seen}
 use Rattle.trees.specs.Views.{steps_of}
@@ -15,14 +15,14 @@ use Rattle.trees.proofs.Growths.{GrownTo, grows_none}
 use Rattle.trees.proofs.Stages.{fuel_left, none_added, rule_grown, none_grown}
 use Rattle.trees.proofs.Branches.{few_arguments, Branching, branching, branch_fuel, branch_begins, branch_skip, branch_leads, branch_covered, branch_ends, branch_added, paid_all, NewHead, NewChild, new_short, new_open, new_child, new_room, new_added, new_missing, new_more}
 use Rattle.trees.proofs.store.Store.+grow.Goals as goal
-use Rattle.trees.proofs.store.Store.+grow.Goals.{In_ok-shared, In-Some-new_head, After-arity_of-arity, After-with_head, After-loop-i, then-complete, else-complete, then-covered, else-covered}
+use Rattle.trees.proofs.store.Store.+grow.Goals.{In_ok-shared, In-Some-new_head, After-arity_of-arity, After-with_head, After-push_opened, After-loop-i, then-complete, else-complete, then-covered, else-covered}
 
 pub returns-in-Some : goal.returns-in-Some
 returns-in-Some t c =
     let d = c.args.draft.now in
     let B = book_of (seen d) in
-    let ps = open_of c.args.stage.now.positions in
-    let rs = chosen c.args.stage.now.remain B.rules in
+    let ps = open_of c.args.stage.positions.now in
+    let rs = chosen c.args.stage.remain.now B.rules in
     let x = place_some B.rules (sole_open ps rs) c.in-Some.rule c.in-Some.ensures in
     let fuel = fuel_left B (draft_short d) c.args.fuel ps rs c.requires.stage in
     record {
@@ -34,8 +34,8 @@ pub returns-in_err-shared : goal.returns-in_err-shared
 returns-in_err-shared t c =
     let d = c.args.draft.now in
     let B = book_of (seen d) in
-    let ps = open_of c.args.stage.now.positions in
-    let m = c.args.stage.now.remain in
+    let ps = open_of c.args.stage.positions.now in
+    let m = c.args.stage.remain.now in
     let rs = chosen m B.rules in
     let e = place_none B.rules (sole_open ps rs) c.in_default.ensures in
     let f = shared_none B.rules m (first_shared ps rs) c.in_err-shared.ensures in
@@ -45,8 +45,8 @@ returns-in_err-shared t c =
     }
 
 -- no rule is left alone, and those that remain share a position
-at_branch : {t : ℕ} (c : In_ok-shared t) → Branching c.args.draft.now (open_of c.args.stage.now.positions) c.args.stage.now.remain c.args.fuel c.in_ok-shared.shared
-at_branch c = branching c.args.draft.now (open_of c.args.stage.now.positions) c.args.stage.now.remain c.args.fuel c.in_ok-shared.shared c.requires.stage c.in_default.ensures c.in_ok-shared.ensures (search rules)
+at_branch : {t : ℕ} (c : In_ok-shared t) → Branching c.args.draft.now (open_of c.args.stage.positions.now) c.args.stage.remain.now c.args.fuel c.in_ok-shared.shared
+at_branch c = branching c.args.draft.now (open_of c.args.stage.positions.now) c.args.stage.remain.now c.args.fuel c.in_ok-shared.shared c.requires.stage c.in_default.ensures c.in_ok-shared.ensures (search rules)
 
 -- a symbol is new
 at_head : {t : ℕ} (c : In-Some-new_head t) → NewHead c.in_ok-shared.shared c.loop-i.i c.in-Some-new_head.symbol
@@ -56,18 +56,22 @@ at_head c = record { after = omega (arith, c.loop-i-test.true); within = omega (
 at_arity : {t : ℕ} (c : After-arity_of-arity t) → c.arity_of-arity.result ≡ length (head_args (book_of (seen c.args.draft.now)).signature (symbol c.in-Some-new_head.symbol))
 at_arity c = c.arity_of-arity.ensures ∙ ap (λ (S : Signature). length (head_args S (symbol c.in-Some-new_head.symbol))) c.declared.ensures.signature
 
+-- its open positions
+at_opened : {t : ℕ} (c : After-push_opened t) → open_of c.push_opened.new.self ≡ opened (open_of c.args.stage.positions.now) (steps_of c.in_ok-shared.shared.path) c.arity_of-arity.result
+at_opened c = c.push_opened.ensures ∙ ap (λ (ps : List (List ℕ)). ps ++ opened (open_of c.args.stage.positions.now) (steps_of c.in_ok-shared.shared.path) c.arity_of-arity.result) c.none-positions.ensures
+
 -- what its child is
 at_child : {t : ℕ} (c : After-with_head t)
-    → NewChild c.args.draft.now (open_of c.args.stage.now.positions) c.args.stage.now.remain c.args.fuel c.in_ok-shared.shared c.in-Some-new_head.symbol (open_of c.opened.result) c.with_head.result
+    → NewChild c.args.draft.now (open_of c.args.stage.positions.now) c.args.stage.remain.now c.args.fuel c.in_ok-shared.shared c.in-Some-new_head.symbol (open_of c.push_opened.new.self) c.with_head.result
 at_child {t} c =
     let p = goal.at.After-with_head t c in
-    new_child (at_branch p.In_ok-shared) (at_head p.In-Some-new_head) (open_of c.opened.result) c.with_head.result c.arity_of-arity.result c.opened.ensures (at_arity p.After-arity_of-arity) c.with_head.ensures
+    new_child (at_branch p.In_ok-shared) (at_head p.In-Some-new_head) (open_of c.push_opened.new.self) c.with_head.result c.arity_of-arity.result (at_opened p.After-push_opened) (at_arity p.After-arity_of-arity) c.with_head.ensures
 
 -- all children
-at_end : {t : ℕ} (c : After-loop-i t) → GrownTo (book_of (seen c.args.draft.now)) (open_of c.args.stage.now.positions) c.args.stage.now.remain c.args.fuel (steps_of c.in_ok-shared.shared.path) c.in_ok-shared.shared.heads 0 c.args.self.now c.loop-i.self c.loop-i.children c.loop-i.complete
+at_end : {t : ℕ} (c : After-loop-i t) → GrownTo (book_of (seen c.args.draft.now)) (open_of c.args.stage.positions.now) c.args.stage.remain.now c.args.fuel (steps_of c.in_ok-shared.shared.path) c.in_ok-shared.shared.heads 0 c.args.self.now c.loop-i.self c.loop-i.children c.loop-i.complete
 at_end c =
     let none : c.loop-i.i ≡ 0 = omega (arith, c.loop-i-test.false) in
-    subst (λ (i : ℕ). GrownTo (book_of (seen c.args.draft.now)) (open_of c.args.stage.now.positions) c.args.stage.now.remain c.args.fuel (steps_of c.in_ok-shared.shared.path) c.in_ok-shared.shared.heads i c.args.self.now c.loop-i.self c.loop-i.children c.loop-i.complete) none c.loop-i.invariant
+    subst (λ (i : ℕ). GrownTo (book_of (seen c.args.draft.now)) (open_of c.args.stage.positions.now) c.args.stage.remain.now c.args.fuel (steps_of c.in_ok-shared.shared.path) c.in_ok-shared.shared.heads i c.args.self.now c.loop-i.self c.loop-i.children c.loop-i.complete) none c.loop-i.invariant
 
 pub loop-i-init : goal.loop-i-init
 loop-i-init t c = branch_begins (at_branch (goal.at.loop-i-init t c).In_ok-shared) c.args.self.now
@@ -75,13 +79,15 @@ loop-i-init t c = branch_begins (at_branch (goal.at.loop-i-init t c).In_ok-share
 pub loop-i-preserved : goal.loop-i-preserved
 loop-i-preserved t c = branch_skip (at_branch (goal.at.loop-i-preserved t c).In_ok-shared) (omega (arith, c.loop-i-test.true)) (omega (arith, c.loop-i.auto.i)) c.in_default-new_head.ensures c.loop-i.invariant
 
-pub opened-requires : goal.opened-requires
-opened-requires t c =
-    let b = at_branch (goal.at.opened-requires t c).In_ok-shared in
-    let h = at_head (goal.at.opened-requires t c).In-Some-new_head in
-    let arity = at_arity (goal.at.opened-requires t c).After-arity_of-arity in
+pub push_opened-requires : goal.push_opened-requires
+push_opened-requires t c =
+    let b = at_branch (goal.at.push_opened-requires t c).In_ok-shared in
+    let h = at_head (goal.at.push_opened-requires t c).In-Some-new_head in
+    let arity = at_arity (goal.at.push_opened-requires t c).After-arity_of-arity in
     let few = few_arguments c.args.draft.now.signature c.in-Some-new_head.symbol in
-    record { few = omega arith; short = new_short b h; room = new_open b h c.arity_of-arity.result arity }
+    let room : length (opened (open_of c.args.stage.positions.now) (steps_of c.in_ok-shared.shared.path) c.arity_of-arity.result) ≤ 64 = new_open b h c.arity_of-arity.result arity in
+    let none = ap length c.none-positions.ensures in
+    record { few = omega arith; short = new_short b h; room = omega arith }
 
 pub overflow_sub-fuel : goal.overflow_sub-fuel
 overflow_sub-fuel t c = branch_fuel (at_branch (goal.at.overflow_sub-fuel t c).In_ok-shared)
@@ -104,10 +110,10 @@ returns-in_err-child t c =
     let h = at_head p.In-Some-new_head in
     let z = at_child p.After-with_head in
     let g = c.in_err-child.ensures in
-    let none = grown_none B.signature B.rules c.loop-i.self c.grow.new.self (grow B.signature (c.args.fuel - 1) (open_of c.opened.result) (chosen c.with_head.result B.rules)) g.grown in
+    let none = grown_none B.signature B.rules c.loop-i.self c.grow.new.self (grow B.signature (c.args.fuel - 1) (open_of c.push_opened.new.self) (chosen c.with_head.result B.rules)) g.grown in
     record {
       fits = new_added b h c.grow.new.self z c.loop-i.invariant g.fits;
-      grown = none_grown B.signature B.rules c.args.self.now c.grow.new.self (grow B.signature c.args.fuel (open_of c.args.stage.now.positions) (chosen c.args.stage.now.remain B.rules)) c.from_residual-in_err-child.result (new_missing b h z none) c.from_residual-in_err-child.ensures;
+      grown = none_grown B.signature B.rules c.args.self.now c.grow.new.self (grow B.signature c.args.fuel (open_of c.args.stage.positions.now) (chosen c.args.stage.remain.now B.rules)) c.from_residual-in_err-child.result (new_missing b h z none) c.from_residual-in_err-child.ensures;
     }
 
 pub push-children-requires : goal.push-children-requires
@@ -127,7 +133,7 @@ loop-i-preserved-in-Some-new_head t c =
     let z = at_child p.After-with_head in
     let g = c.in_ok-child.ensures in
     let k = c.in_ok-child.child in
-    let some = grown_some B.signature B.rules c.loop-i.self c.grow.new.self (grow B.signature (c.args.fuel - 1) (open_of c.opened.result) (chosen c.with_head.result B.rules)) k g.grown in
+    let some = grown_some B.signature B.rules c.loop-i.self c.grow.new.self (grow B.signature (c.args.fuel - 1) (open_of c.push_opened.new.self) (chosen c.with_head.result B.rules)) k g.grown in
     let both : c.if-complete.complete ≡ (c.loop-i.complete && k.complete) =
     elim c.if-complete.branch [
       | then-complete w ↦ w.complete-is ∙ ap (λ (y : Bool). y && k.complete) (sym w.if-complete.true)

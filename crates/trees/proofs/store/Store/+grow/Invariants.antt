@@ -9,4 +9,4 @@ abbrev pub decreases-grow : goal.decreases-grow
 decreases-grow l = l.fuel
 
 abbrev pub invariant-loop-i : goal.invariant-loop-i
-invariant-loop-i l = GrownTo (book_of (seen l.draft)) (open_of l.stage.positions) l.stage.remain l.fuel (steps_of l.shared.path) l.shared.heads l.i l.initial.self l.self l.children l.complete
+invariant-loop-i l = GrownTo (book_of (seen l.draft)) (open_of l.stage.positions.now) l.stage.remain.now l.fuel (steps_of l.shared.path) l.shared.heads l.i l.initial.self l.self l.children l.complete
