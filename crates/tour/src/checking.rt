@@ -1,4 +1,8 @@
 // Four drafts are checked; two of them are books, shown with their trees.
+ghost use Rattle.std.specs.Prelude.{◌≡◌, IfOk};
+ghost use Rattle.books.specs.Examples.{pick_draft, either_draft, half_draft};
+ghost use Rattle.drafts.specs.Stores.{seen};
+
 use crate::letters::{LEVEL, TRUTH, UP, X, ZERO};
 use crate::spelling::{Indent, Letters, Position, Symbol};
 use books::book::Book;
@@ -13,7 +17,9 @@ const DEEPEST: usize = 8;
 
 // pick(A, true) = A; pick(true, false) = false; pick(false, false) = true
 // As `either` and `half` written out by its calls: the rules are to be read in the order in which they are added.
-fn pick() -> anyhow::Result<Draft> {
+fn pick() -> anyhow::Result<Draft>
+    ensures { IfOk result (λ d. seen d ≡ pick_draft) }
+{
     let pick = SYMBOLS + 5;
     let mut draft = Draft::new();
     draft.declare_function(b"pick", &[TRUTH, TRUTH], TRUTH, 3)?;
@@ -24,7 +30,9 @@ fn pick() -> anyhow::Result<Draft> {
 }
 
 // either(true, A) = true; either(A, true) = true; either(false, false) = false
-fn either() -> anyhow::Result<Draft> {
+fn either() -> anyhow::Result<Draft>
+    ensures { IfOk result (λ d. seen d ≡ either_draft) }
+{
     let either = SYMBOLS + 5;
     let mut draft = Draft::new();
     draft.declare_function(b"either", &[TRUTH, TRUTH], TRUTH, 3)?;
@@ -35,7 +43,9 @@ fn either() -> anyhow::Result<Draft> {
 }
 
 // half(zero) = zero; half(up(up(A))) = up(half(A))
-fn half() -> anyhow::Result<Draft> {
+fn half() -> anyhow::Result<Draft>
+    ensures { IfOk result (λ d. seen d ≡ half_draft) }
+{
     let half = SYMBOLS + 7;
     let mut draft = Draft::new();
     draft.declare_sort(b"level")?;

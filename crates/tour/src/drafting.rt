@@ -1,4 +1,9 @@
 // The meet book written by calls, and calls that are refused on the way.
+ghost use Rattle.std.specs.Prelude.{◌≡◌, IfOk, OnOk};
+ghost use Rattle.books.specs.Examples.{meet_begun, meet_draft};
+ghost use Rattle.drafts.specs.Drafts.{empty};
+ghost use Rattle.drafts.specs.Stores.{seen};
+
 use crate::letters::{LEVEL, MEET, TRUTH, UP, X, Y, ZERO};
 use drafts::draft::Draft;
 use drafts::fault::{ContentFault, RuleFault};
@@ -52,7 +57,10 @@ fn tell<N: fmt::Display + Drop, F: Into<Refusal>>(
     }
 }
 
-fn declare_contents(rt: &HostRuntime, draft: &mut Draft) -> io::Result<()> {
+fn declare_contents(rt: &HostRuntime, draft: &mut Draft) -> io::Result<()>
+    requires { seen draft.old ≡ empty }
+    ensures { OnOk result (seen draft.new ≡ meet_begun) }
+{
     tell(rt, "sort level", draft.declare_sort(b"level"))?;
     let zero = draft.declare_constructor(b"zero", &[], LEVEL);
     tell(rt, "con zero : level", zero)?;
@@ -62,7 +70,10 @@ fn declare_contents(rt: &HostRuntime, draft: &mut Draft) -> io::Result<()> {
     tell(rt, "fun meet(level, level) : level 3", meet)
 }
 
-fn refuse_contents(rt: &HostRuntime, draft: &mut Draft) -> io::Result<()> {
+fn refuse_contents(rt: &HostRuntime, draft: &mut Draft) -> io::Result<()>
+    requires { seen draft.old ≡ meet_begun }
+    ensures { OnOk result (seen draft.new ≡ meet_begun) }
+{
     tell(rt, "sort Level", draft.declare_sort(b"Level"))?;
     tell(rt, "sort up", draft.declare_sort(b"up"))?;
     let unknown = draft.declare_constructor(b"top", &[9], LEVEL);
@@ -75,7 +86,10 @@ fn refuse_contents(rt: &HostRuntime, draft: &mut Draft) -> io::Result<()> {
     tell(rt, "fun idle : level 0", none)
 }
 
-fn refuse_sides(rt: &HostRuntime, draft: &mut Draft) -> io::Result<()> {
+fn refuse_sides(rt: &HostRuntime, draft: &mut Draft) -> io::Result<()>
+    requires { seen draft.old ≡ meet_begun }
+    ensures { OnOk result (seen draft.new ≡ meet_begun) }
+{
     tell(rt, "nothing = zero", draft.add_rule(&[], &[ZERO]))?;
     let unknown = draft.add_rule(&[MEET, X, Y], &[MEET + 1]);
     tell(rt, "meet(X, Y) = symbol 8", unknown)?;
@@ -85,7 +99,10 @@ fn refuse_sides(rt: &HostRuntime, draft: &mut Draft) -> io::Result<()> {
     tell(rt, "up(X) = zero", draft.add_rule(&[UP, X], &[ZERO]))
 }
 
-fn refuse_shapes(rt: &HostRuntime, draft: &mut Draft) -> io::Result<()> {
+fn refuse_shapes(rt: &HostRuntime, draft: &mut Draft) -> io::Result<()>
+    requires { seen draft.old ≡ meet_begun }
+    ensures { OnOk result (seen draft.new ≡ meet_begun) }
+{
     let inner = draft.add_rule(&[MEET, X, MEET, X, Y], &[ZERO]);
     tell(rt, "meet(X, meet(X, Y)) = zero", inner)?;
     let twice = draft.add_rule(&[MEET, X, X], &[ZERO]);
@@ -98,7 +115,10 @@ fn refuse_shapes(rt: &HostRuntime, draft: &mut Draft) -> io::Result<()> {
     tell(rt, "meet(X, Y) = plus(1, 2)", right)
 }
 
-fn add_rules(rt: &HostRuntime, draft: &mut Draft) -> io::Result<()> {
+fn add_rules(rt: &HostRuntime, draft: &mut Draft) -> io::Result<()>
+    requires { seen draft.old ≡ meet_begun }
+    ensures { OnOk result (seen draft.new ≡ meet_draft) }
+{
     let first = draft.add_rule(&[MEET, ZERO, Y], &[ZERO]);
     tell(rt, "meet(zero, Y) = zero", first)?;
     let second = draft.add_rule(&[MEET, UP, X, ZERO], &[ZERO]);
@@ -111,7 +131,9 @@ fn add_rules(rt: &HostRuntime, draft: &mut Draft) -> io::Result<()> {
 }
 
 // Contents and rules of one draft, which is answered. What is refused changes nothing, so that the draft goes on as if it had not been.
-pub fn show_draft(rt: &HostRuntime) -> anyhow::Result<Draft> {
+pub fn show_draft(rt: &HostRuntime) -> anyhow::Result<Draft>
+    ensures { IfOk result (λ d. seen d ≡ meet_draft) }
+{
     let mut draft = Draft::new();
     println!(rt; "A book is drafted by calls, each with what it answers.")?;
     declare_contents(rt, &mut draft)?;
