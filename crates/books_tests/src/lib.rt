@@ -155,6 +155,9 @@ mod tests {
 
     const SECOND_ANY: Sides = (&[SECOND, X], &[X]);
 
+    // The same but for the name of its variable.
+    const SECOND_OTHER: Sides = (&[SECOND, Y], &[Y]);
+
     // Two functions of a level that promise so many rules, and the first rules of them.
     fn two(promised: [u64; 2], rules: &[Sides]) -> Result<Draft, Fail> {
         let [first, second] = promised;
@@ -202,6 +205,15 @@ mod tests {
         assert_eq!(rt; refusal(&twice), Some((23, 7)));
         let alone = two([2, 1], &[FIRST_ANY, FIRST_ANY, SECOND_ANY])?;
         assert_eq!(rt; refusal(&alone), Some((23, 7)));
+        Ok(())
+    }
+
+    #[test]
+    fn an_incomplete_function_is_named_before_one_without_a_tree(
+        rt: HostRuntime,
+    ) -> Result<(), Fail> {
+        let draft = two([1, 2], &[FIRST_ZERO, SECOND_ANY, SECOND_OTHER])?;
+        assert_eq!(rt; refusal(&draft), Some((24, 7)));
         Ok(())
     }
 
@@ -314,6 +326,7 @@ mod tests {
             && branches(place, &[], &[1])
             && applies(place, &[5], 0)
             && applies(place, &[6], 1)
+            && node_at(place, &[3]).is_none()
             && place.rules.root(8).is_none()
     }
 
@@ -336,6 +349,11 @@ mod tests {
             assert_eq!(rt; fault, Some((*number, 8)));
             assert!(rt; is_step(&place));
         }
+        assert!(rt; place.check(&defined(&[LEVEL], &[FIRST_ZERO])?).is_err());
+        assert!(rt; is_step(&place));
+        assert!(rt; place.check(&Draft::new()).is_ok());
+        assert_eq!(rt; place.rules.rule_count(), 0);
+        assert!(rt; place.rules.root(7).is_none());
         Ok(())
     }
 

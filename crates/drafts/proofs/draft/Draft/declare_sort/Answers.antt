@@ -1,4 +1,4 @@
-use Rattle.std.proofs.Common.{length, ap, ◌∙◌}
+use Rattle.std.proofs.Common.{length, Some, ap, ◌∙◌, rules}
 use Rattle.std.specs.Prelude.{ok_or}
 use Rattle.drafts.specs.declared.fault.ContentFault.TheVariants.{NoNumberLeft}
 use Rattle.drafts.specs.Contents.{sort_fault, with_sort}
@@ -24,4 +24,4 @@ returns c =
     let a = c.args.self.now in
     let n = c.args.name.now in
     let s = add_new_sort a n _ _ _ c.in_ok-new.ensures c.add_sort.ensures in
-    done a _ (sort_fault (seen a) n) (seen a) (with_sort (seen a) n) (length (seen a).signature.sorts) _ s.fine (c.ok_or.ensures.value ∙ ap (λ r. ok_or r NoNumberLeft) s.number) s.after
+    done a _ (sort_fault (seen a) n) (seen a) (with_sort (seen a) n) (length (seen a).signature.sorts) _ s.fine (let e = s.number in let o = c.ok_or.ensures.value in search (rules, ok_or)) s.after
