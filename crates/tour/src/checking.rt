@@ -1,8 +1,13 @@
 // Four drafts are checked; two of them are books, shown with their trees.
-ghost use Rattle.std.specs.Prelude.{◌≡◌, IfOk};
-ghost use Rattle.books.specs.Examples.{pick_draft, either_draft, half_draft};
+ghost use Rattle.std.specs.Prelude.{◌≡◌, IfOk, codes};
+ghost use Rattle.drafts.specs.Drafts.{empty};
 ghost use Rattle.drafts.specs.Stores.{seen};
+ghost use Rattle.trees.specs.Checks.{check_fault};
+ghost use Rattle.trees.specs.Standing.{refusal};
+ghost use Rattle.books.specs.Holding.{held, after_check};
+ghost use Rattle.tour.specs.Checked.{Named};
 
+use crate::drafting::show_draft;
 use crate::letters::{LEVEL, TRUTH, UP, X, ZERO};
 use crate::spelling::{Indent, Letters, Position, Symbol};
 use books::book::Book;
@@ -10,6 +15,7 @@ use drafts::draft::Draft;
 use std::io;
 use terms::letter::{FALSE, SYMBOLS, TRUE};
 use terms::signature::MOST_SYMBOLS;
+use trees::fault::CheckFault;
 use trees::node::Kind;
 
 // What lies deeper is not printed; no tree of the tour does.
@@ -18,7 +24,7 @@ const DEEPEST: usize = 8;
 // pick(A, true) = A; pick(true, false) = false; pick(false, false) = true
 // As `either` and `half` written out by its calls: the rules are to be read in the order in which they are added.
 fn pick() -> anyhow::Result<Draft>
-    ensures { IfOk result (λ d. seen d ≡ pick_draft) }
+    ensures { IfOk result (λ d. Named (codes "pick") (seen d)) }
 {
     let pick = SYMBOLS + 5;
     let mut draft = Draft::new();
@@ -31,7 +37,7 @@ fn pick() -> anyhow::Result<Draft>
 
 // either(true, A) = true; either(A, true) = true; either(false, false) = false
 fn either() -> anyhow::Result<Draft>
-    ensures { IfOk result (λ d. seen d ≡ either_draft) }
+    ensures { IfOk result (λ d. Named (codes "either") (seen d)) }
 {
     let either = SYMBOLS + 5;
     let mut draft = Draft::new();
@@ -44,7 +50,7 @@ fn either() -> anyhow::Result<Draft>
 
 // half(zero) = zero; half(up(up(A))) = up(half(A))
 fn half() -> anyhow::Result<Draft>
-    ensures { IfOk result (λ d. seen d ≡ half_draft) }
+    ensures { IfOk result (λ d. Named (codes "half") (seen d)) }
 {
     let half = SYMBOLS + 7;
     let mut draft = Draft::new();
@@ -117,13 +123,31 @@ fn show_book(rt: &HostRuntime, book: &Book) -> io::Result<()> {
     Ok(())
 }
 
-// What Check says of a draft.
-fn tell(rt: &HostRuntime, name: &str, draft: &Draft) -> io::Result<()> {
+// What Check says of a draft, under its name.
+fn tell(rt: &HostRuntime, name: &str, draft: &Draft) -> io::Result<()>
+    requires { Named name.now (seen draft.now) }
+{
     let mut book = Book::empty();
-    match book.check(draft) {
+    let verdict = book.check(draft);
+    show_verdict(rt, name, draft, verdict, &book)
+}
+
+// A verdict on the draft of that name: a book is shown with its trees.
+fn show_verdict(
+    rt: &HostRuntime,
+    name: &str,
+    draft: &Draft,
+    verdict: Result<(), CheckFault>,
+    book: &Book,
+) -> io::Result<()>
+    requires draft { Named name.now (seen draft.now) }
+    requires verdict { refusal verdict ≡ check_fault (seen draft.now) }
+    requires book { held book.now ≡ after_check (check_fault (seen draft.now)) (seen draft.now) empty }
+{
+    match verdict {
         Ok(()) => {
             println!(rt; "  {name}: accepted")?;
-            show_book(rt, &book)
+            show_book(rt, book)
         }
         Err(fault) => {
             // With the name of the function; what the fault prints has its number.
@@ -137,12 +161,13 @@ fn tell(rt: &HostRuntime, name: &str, draft: &Draft) -> io::Result<()> {
     }
 }
 
-// The draft of meet and three more, and what Check says of them.
-pub fn show_checks(rt: &HostRuntime, meet: &Draft) -> anyhow::Result<()> {
+// The draft of meet is made and shown; then what Check says of it and of three more.
+pub fn show_checks(rt: &HostRuntime) -> anyhow::Result<()> {
+    let meet = show_draft(rt)?;
     println!(rt;
         "Drafts are checked; a book is shown with its trees, by position, constructor and rule."
     )?;
-    tell(rt, "meet", meet)?;
+    tell(rt, "meet", &meet)?;
     tell(rt, "pick", &pick()?)?;
     tell(rt, "either", &either()?)?;
     tell(rt, "half", &half()?)?;

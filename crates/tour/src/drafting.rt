@@ -1,8 +1,9 @@
 // The meet book written by calls, and calls that are refused on the way.
-ghost use Rattle.std.specs.Prelude.{◌≡◌, IfOk, OnOk};
+ghost use Rattle.std.specs.Prelude.{◌≡◌, IfOk, OnOk, codes};
 ghost use Rattle.books.specs.Examples.{meet_begun, meet_draft};
 ghost use Rattle.drafts.specs.Drafts.{empty};
 ghost use Rattle.drafts.specs.Stores.{seen};
+ghost use Rattle.tour.specs.Checked.{Named};
 
 use crate::letters::{LEVEL, MEET, TRUTH, UP, X, Y, ZERO};
 use drafts::draft::Draft;
@@ -132,7 +133,7 @@ fn add_rules(rt: &HostRuntime, draft: &mut Draft) -> io::Result<()>
 
 // Contents and rules of one draft, which is answered. What is refused changes nothing, so that the draft goes on as if it had not been.
 pub fn show_draft(rt: &HostRuntime) -> anyhow::Result<Draft>
-    ensures { IfOk result (λ d. seen d ≡ meet_draft) }
+    ensures { IfOk result (λ d. Named (codes "meet") (seen d)) }
 {
     let mut draft = Draft::new();
     println!(rt; "A book is drafted by calls, each with what it answers.")?;

@@ -35,8 +35,7 @@ fn show_sweep(rt: &HostRuntime) -> anyhow::Result<()> {
 fn run(rt: &HostRuntime) -> anyhow::Result<()> {
     show_sweep(rt)?;
     parts::show_words(rt)?;
-    let meet = drafting::show_draft(rt)?;
-    checking::show_checks(rt, &meet)
+    checking::show_checks(rt)
 }
 
 fn main(rt: HostRuntime) -> anyhow::Result<()> {
