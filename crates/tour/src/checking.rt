@@ -132,7 +132,7 @@ fn tell(rt: &HostRuntime, name: &str, draft: &Draft) -> io::Result<()>
     show_verdict(rt, name, draft, verdict, &book)
 }
 
-// A verdict on the draft of that name: a book is shown with its trees.
+// Shows a verdict on a draft under its name; a book with its trees.
 fn show_verdict(
     rt: &HostRuntime,
     name: &str,
@@ -161,7 +161,7 @@ fn show_verdict(
     }
 }
 
-// The draft of meet is made and shown; then what Check says of it and of three more.
+// The draft of meet is made and shown; then it is told what Check says of it and of three more.
 pub fn show_checks(rt: &HostRuntime) -> anyhow::Result<()> {
     let meet = show_draft(rt)?;
     println!(rt;
